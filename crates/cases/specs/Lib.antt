@@ -1,0 +1,2 @@
+pub mod W
+pub mod Opening

@@ -1,0 +1,95 @@
+// Little-endian numbers at a place of a file.
+ghost use mathlib.Core.Path.{_≡_};
+ghost use Prim.Native.Nat.{_+_, _≤_, _<_, min};
+ghost use lib.ListN.{length};
+ghost use Rattle.le.specs.Number.{number};
+
+fn wide(x: u8) -> u16
+    ensures { λ r. ⌜ (r ≡ x) × (r < 256) ⌝ }
+{
+    x as u16
+}
+
+// Numbers that stand inside the file: each compiles to one load.
+pub fn load_u16(file: &[u8], at: usize) -> u16
+    requires { ⌜ at + 2 ≤ length (now file) ⌝ }
+    ensures { λ r. ⌜ r ≡ number 2 (now (file .entry)) at ⌝ }
+{
+    wide(file[at]) + 0x100 * wide(file[at + 1])
+}
+
+pub fn load_u32(file: &[u8], at: usize) -> u32
+    requires { ⌜ at + 4 ≤ length (now file) ⌝ }
+    ensures { λ r. ⌜ r ≡ number 4 (now (file .entry)) at ⌝ }
+{
+    let low = load_u16(file, at) as u32;
+    let high = load_u16(file, at + 2) as u32;
+    low + 0x1_0000 * high
+}
+
+pub fn load_u64(file: &[u8], at: usize) -> u64
+    requires { ⌜ at + 8 ≤ length (now file) ⌝ }
+    ensures { λ r. ⌜ r ≡ number 8 (now (file .entry)) at ⌝ }
+{
+    let low = load_u32(file, at) as u64;
+    let high = load_u32(file, at + 4) as u64;
+    low + 0x1_0000_0000 * high
+}
+
+// A place and an offset from it, which together may be past what a u64 holds: past the end one place reads as another.
+fn place_in(file: &[u8], at: u64, offset: u64) -> usize
+    ensures { λ r. ⌜ r ≡ min (at + offset) (length (now (file .entry))) ⌝ }
+{
+    let n = file.len() as u64;
+    if at < n {
+        if offset < n - at {
+            (at + offset) as usize
+        } else {
+            file.len()
+        }
+    } else {
+        file.len()
+    }
+}
+
+// Numbers at an offset from any place at all. What is past the end counts as 0.
+pub fn u8_at(file: &[u8], at: u64, offset: u64) -> u8
+    ensures { λ r. ⌜ r ≡ number 1 (now (file .entry)) (at + offset) ⌝ }
+{
+    let i = place_in(file, at, offset);
+    if i < file.len() { file[i] } else { 0 }
+}
+
+pub fn u16_at(file: &[u8], at: u64, offset: u64) -> u16
+    ensures { λ r. ⌜ r ≡ number 2 (now (file .entry)) (at + offset) ⌝ }
+{
+    let i = place_in(file, at, offset);
+    if 2 <= file.len() - i {
+        return load_u16(file, i);
+    }
+    u8_at(file, i as u64, 0) as u16
+}
+
+pub fn u32_at(file: &[u8], at: u64, offset: u64) -> u32
+    ensures { λ r. ⌜ r ≡ number 4 (now (file .entry)) (at + offset) ⌝ }
+{
+    let i = place_in(file, at, offset);
+    if 4 <= file.len() - i {
+        return load_u32(file, i);
+    }
+    let low = u16_at(file, i as u64, 0) as u32;
+    let high = u16_at(file, i as u64, 2) as u32;
+    low + 0x1_0000 * high
+}
+
+pub fn u64_at(file: &[u8], at: u64, offset: u64) -> u64
+    ensures { λ r. ⌜ r ≡ number 8 (now (file .entry)) (at + offset) ⌝ }
+{
+    let i = place_in(file, at, offset);
+    if 8 <= file.len() - i {
+        return load_u64(file, i);
+    }
+    let low = u32_at(file, i as u64, 0) as u64;
+    let high = u32_at(file, i as u64, 4) as u64;
+    low + 0x1_0000_0000 * high
+}

@@ -1,0 +1,52 @@
+-- The parts of an answer: one pair, headers with nothing to check, and what an entry point hands back.
+use Prim.Native.Nat.{ℕ, zero, suc, _+_}
+use mathlib.Core.List.{List, [], _∷_}
+use mathlib.Core.Path.{_≡_, refl, sym, ap, _∙_}
+use native.Mathlib.Nat.{add-zero}
+use Rattle.le.specs.Number.{number}
+use Rattle.refusal.specs.declared.Refusal.{Refusal}
+use Rattle.refusal.specs.declared.Check.{Check}
+use Rattle.refusal.specs.declared.Check.the-variants.{Passed, Refused}
+use Rattle.refusal.specs.Check.{rule, first, codeOf}
+use Rattle.open.specs.Format.{Format, section, nothing}
+use Rattle.open.specs.Opening.{placeFor, pairAt, pairs, headerRule, headerCheck, strideRules, contentRule, openingWith, opening, blank, ifPassed, opened}
+
+place-some : (size pointer : ℕ) → (size ≡ 0 → ⊥) → placeFor size pointer ≡ pointer
+unfolding placeFor
+place-some zero pointer h = absurd (h refl)
+place-some (suc n) pointer h = refl
+
+place-none : (size pointer : ℕ) → size ≡ 0 → placeFor size pointer ≡ 0
+unfolding placeFor
+place-none size pointer e = rw e
+
+module _ (file : List ℕ) (entry size : ℕ) (s : size ≡ number 8 file (entry + 0)) where
+  stands-here : size ≡ number 8 file entry
+  stands-here = s ∙ ap (number 8 file) (add-zero entry)
+
+  pub pair-none : size ≡ 0 → 0 ∷ size ∷ [] ≡ pairAt file entry
+  unfolding pairAt
+  pair-none z = rw (← stands-here, place-none size (number 8 file (entry + 8)) z)
+
+  pub pair-some : (place : ℕ) → (size ≡ 0 → ⊥) → place ≡ number 8 file (entry + 8) → place ∷ size ∷ [] ≡ pairAt file entry
+  unfolding pairAt
+  pair-some place n p = rw (← stands-here, place-some size (number 8 file (entry + 8)) n, p)
+
+-- a header with neither strides nor an array
+pub no-header : (file : List ℕ) (ps : List (List ℕ)) (k end align : ℕ) → headerCheck file ps k (section end align [] nothing) ≡ Passed
+unfolding headerCheck headerRule strideRules contentRule rule first
+no-header file ps k end align = refl
+
+-- what an entry point hands back, from the pairs of the header, the check over them and its number
+module _ (f : Format) (file : List ℕ) {ps : List (List ℕ)} {c : Check} {n : ℕ} (p : ps ≡ pairs f file) (q : c ≡ openingWith f file ps) (e : n ≡ codeOf c) where
+  told : c ≡ opening f file
+  unfolding opening
+  told = q ∙ ap (openingWith f file) p
+
+  pub passed : c ≡ Passed → (ps ≡ opened f file) × (n ≡ codeOf (opening f file))
+  unfolding opened ifPassed
+  passed h = (rw (← told, h) p, e ∙ ap codeOf told)
+
+  pub refused : (r : Refusal) → c ≡ Refused r → (blank (pairs f file) ≡ opened f file) × (n ≡ codeOf (opening f file))
+  unfolding opened ifPassed
+  refused r h = (rw (← told, h), e ∙ ap codeOf told)

@@ -1,0 +1,33 @@
+-- Checks pass exactly if each rule holds, and a check that passed adds nothing to another.
+use Prim.Native.Nat.{ℕ}
+use mathlib.Core.Bool.{Bool, true, false}
+use mathlib.Core.Logic.{_↔_}
+use mathlib.Core.Path.{_≡_, refl}
+use native.Mathlib.Omega.{arith}
+use Rattle.refusal.specs.declared.Refusal.{Refusal}
+use Rattle.refusal.specs.declared.Check.{Check}
+use Rattle.refusal.specs.declared.Check.the-variants.{Passed, Refused}
+use Rattle.refusal.specs.Check.{rule, first}
+
+pub rule-passes : (t : Bool) (r : Refusal) → (rule t r ≡ Passed) ↔ (t ≡ true)
+unfolding rule
+rule-passes true r = (λ e. refl, λ e. refl)
+rule-passes false r = (λ e. let z : _≡_ {A = ℕ} 0 1 = cc in absurd (omega arith), λ e. let z : _≡_ {A = ℕ} 0 1 = cc in absurd (omega arith))
+
+pub first-passes : (a b : Check) → (first a b ≡ Passed) ↔ ((a ≡ Passed) × (b ≡ Passed))
+unfolding first
+first-passes Passed b = (λ e. (refl, e), λ e. e .1)
+first-passes (Refused r) b = (λ e. let z : _≡_ {A = ℕ} 0 1 = cc in absurd (omega arith), λ e. e .0)
+
+pub passed-first : (a : Check) → first Passed a ≡ a
+unfolding first
+passed-first a = refl
+
+pub first-passed : (a : Check) → first a Passed ≡ a
+unfolding first
+first-passed Passed = refl
+first-passed (Refused r) = refl
+
+pub rule-holds : (r : Refusal) → rule true r ≡ Passed
+unfolding rule
+rule-holds r = refl

@@ -1,0 +1,22 @@
+-- Checks: of one rule, and of several in their order.
+use Prim.Native.Nat.{ℕ}
+use mathlib.Core.Bool.{Bool, true, false}
+use Rattle.refusal.specs.declared.Refusal.{Refusal}
+use Rattle.refusal.specs.declared.Check.{Check}
+use Rattle.refusal.specs.declared.Check.the-variants.{Passed, Refused}
+use Rattle.refusal.specs.Number.{numberOf}
+
+-- the number of a check's answer: 0 where it passed
+unfoldable pub codeOf : Check → ℕ
+codeOf Passed = 0
+codeOf (Refused r) = numberOf r
+
+-- a rule that holds is passed, and else its refusal is given
+unfoldable pub rule : Bool → Refusal → Check
+rule true r = Passed
+rule false r = Refused r
+
+-- the first refusal of two
+unfoldable pub first : Check → Check → Check
+first Passed b = b
+first (Refused r) b = Refused r

@@ -1,0 +1,25 @@
+-- By the answer's case.
+use Rattle.text.specs.String.{textBytes, textCode}
+use borrow.Author.Needs.{needs}
+use Rattle.text.proofs.bytes.Statement.{statement}
+use Rattle.text.proofs.bytes.Tie as tie
+
+returns : tie.Need-returns
+unfolding textBytes textCode
+returns c = (rw (c .before .before .text .given .1, c .part .ensures), rw (c .before .before .text .given .1))
+
+returns-2 : tie.Need-returns-2
+unfolding textBytes textCode
+returns-2 c = (rw (c .before .before .before .text2 .given .1), rw (c .before .before .before .text2 .given .1, c .before .number .ensures))
+
+pub bytes-spec : {M : Type 1} → statement M
+bytes-spec =
+    tie.close
+    (tie.spec
+    (λ c. search needs)
+    (λ c κs. search needs)
+    (λ c. search needs)
+    (λ c κs. search needs)
+    (λ c. search needs)
+    returns
+    returns-2)

@@ -1,0 +1,103 @@
+// Strings in a section of a file.
+ghost use mathlib.Core.Path.{_≡_};
+ghost use lib.ListN.{length, take, drop};
+ghost use Rattle.text.specs.String.{until, bytesFrom, stringAt, textCode, textBytes};
+use refusal::Refusal;
+
+// Where a string stands, without its NUL; or the refusal.
+pub enum Text {
+    At { place: u64, length: u64 },
+    Refused(refusal::Refusal),
+}
+
+// How many bytes stand before the first that is `stop`; all where none is.
+pub fn until(stop: u8, bytes: &[u8]) -> usize
+    ensures { λ r. ⌜ r ≡ until stop (now (bytes .entry)) ⌝ }
+{
+    let mut i = 0;
+    while i < bytes.len() {
+        if bytes[i] == stop {
+            return i;
+        }
+        i += 1;
+    }
+    i
+}
+
+// How many bytes a section has from a place on.
+fn count_from(file: &[u8], section: [u64; 2], place: u64) -> usize
+    ensures { λ r. ⌜ r ≡ length (bytesFrom (now (file .entry)) section place) ⌝ }
+{
+    let start = section[0];
+    let size = section[1];
+    let n = file.len() as u64;
+    if place < start {
+        return 0;
+    }
+    if n <= place {
+        return 0;
+    }
+    if size <= place - start {
+        return 0;
+    }
+    let in_section = size - (place - start);
+    if in_section < n - place {
+        in_section as usize
+    } else {
+        (n - place) as usize
+    }
+}
+
+// The string at a place of a section.
+pub fn find(file: &[u8], section: [u64; 2], place: u64) -> Text
+    ensures { λ r. ⌜ r ≡ stringAt (now (file .entry)) section place ⌝ }
+{
+    let n = count_from(file, section, place);
+    if n == 0 {
+        return Text::Refused(Refusal::String);
+    }
+    let from = place as usize;
+    let to = from + n;
+    let length = until(0, &file[from..to]);
+    if length < n {
+        Text::At {
+            place,
+            length: length as u64,
+        }
+    } else {
+        Text::Refused(Refusal::String)
+    }
+}
+
+// The bytes of an answer, and its number; no bytes where it is a refusal.
+pub fn bytes<'a>(file: &'a [u8], text: Text, refusal: &mut u64) -> &'a [u8]
+    ensures { λ r. ⌜ now r ≡ textBytes (now (file .entry)) text ⌝ }
+    ensures { λ _. ⌜ now (refusal .exit) ≡ textCode text ⌝ }
+{
+    match text {
+        Text::At { place, length } => {
+            *refusal = 0;
+            part(file, place, length)
+        }
+        Text::Refused(r) => {
+            *refusal = refusal::number(r);
+            &file[..0]
+        }
+    }
+}
+
+// Some bytes from a place on, as far as the file has them.
+fn part<'a>(file: &'a [u8], place: u64, length: u64) -> &'a [u8]
+    ensures { λ r. ⌜ now r ≡ take length (drop place (now (file .entry))) ⌝ }
+{
+    let n = file.len() as u64;
+    if n <= place {
+        return &file[..0];
+    }
+    let from = place as usize;
+    if n - place <= length {
+        return &file[from..];
+    }
+    let to = from + length as usize;
+    &file[from..to]
+}

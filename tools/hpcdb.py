@@ -1,0 +1,118 @@
+"""HPCToolkit 4.0 files for the tests, built and opened in Python: written from the format's description alone, apart from the Rattle
+code, so that the two can be compared."""
+import struct
+
+END = 2 ** 64
+
+
+def u(width, n):
+    return (n % (1 << (8 * width))).to_bytes(width, "little")
+
+
+def poke(file, at, data):
+    return file[:at] + data + file[at + len(data):]
+
+
+def number(file, at, width):
+    return int.from_bytes(file[at:at + width], "little")
+
+
+MAGIC = {"meta": b"HPCTOOLKITmeta", "profile": b"HPCTOOLKITprof", "cct": b"HPCTOOLKITctxt", "trace": b"HPCTOOLKITtrce"}
+FOOTER = {"meta": b"_meta.db", "profile": b"_prof.db", "cct": b"__ctx.db", "trace": None}
+HEADER = {"meta": 144, "profile": 48, "cct": 32, "trace": 32}
+
+
+def front(kind, sections, version=(4, 0)):
+    """The header: magic, version, and (size, place) of each section."""
+    return MAGIC[kind] + bytes(version) + b"".join(u(8, size) + u(8, place) for place, size in sections)
+
+
+def context(children, ctx, kind, relation, flags=0, flex=()):
+    place, size = children
+    return u(8, size) + u(8, place) + u(4, ctx) + bytes([flags, relation, kind, len(flex)]) + b"".join(u(8, w) for w in flex)
+
+
+def array(place, count, stride, width):
+    return u(8, place) + u(4, count) + u(width, stride)
+
+
+def w():
+    """File W."""
+    f = bytearray(366)
+
+    def at(place, data):
+        f[place:place + len(data)] = data
+    at(0, front("meta", [(144, 18), (168, 9), (184, 15), (200, 112), (0, 0), (312, 14), (328, 14), (344, 14)]))
+    at(144, u(8, 160) + u(8, 161) + b"T")
+    at(184, u(8, 0) + u(4, 0) + bytes([24, 24, 16]))
+    at(200, u(8, 48) + u(8, 216))
+    at(216, context((264, 48), 1, 0, 1))
+    at(240, context((0, 0), 4, 0, 1))
+    at(264, context((0, 0), 2, 1, 0))
+    at(288, context((0, 0), 3, 2, 0))
+    at(312, array(0, 0, 16, 2))
+    at(328, array(0, 0, 16, 2))
+    at(344, array(0, 0, 40, 2))
+    at(358, b"_meta.db")
+    return bytes(f)
+
+
+# ---- opening, section by section as the description has it: (least size, alignment, strides, content)
+ARRAY8 = lambda least: (13, 8, [(12, 1, least)], ("array", (8, 4), (12, 1)))
+ARRAY16 = lambda least: (14, 8, [(12, 2, least)], ("array", (8, 4), (12, 2)))
+SECTIONS = {
+    "meta": [
+        (16, 8, [], None),
+        (9, 8, [], ("array", (8, 1), 8)),
+        (15, 8, [(12, 1, 24), (13, 1, 24), (14, 1, 16)], ("array", (8, 4), (12, 1))),
+        (16, 8, [], ("roots",)),
+        (0, 1, [], None),
+        ARRAY16(16), ARRAY16(16), ARRAY16(40)],
+    "profile": [ARRAY8(40), (0, 8, [], None)],
+    "cct": [ARRAY8(32)],
+    "trace": [ARRAY8(24)],
+}
+
+
+def content_kept(file, place, size, least, content):
+    if content is None:
+        return True
+    if content[0] == "roots":
+        n, p = number(file, place, 8), number(file, place + 8, 8)
+        if p == 0 or n == 0:
+            return p == n
+        return p % 8 == 0 and place + least <= p and p + n <= place + size
+    p, n = number(file, place, 8), number(file, place + content[1][0], content[1][1])
+    stride = content[2] if isinstance(content[2], int) else number(file, place + content[2][0], content[2][1])
+    return n == 0 or (p % 8 == 0 and place + least <= p and p + n * stride <= place + size)
+
+
+def opening(kind, file):
+    """(number, pairs): 0 and the pairs of place and size, or the refusal's number and pairs of 0."""
+    rows = SECTIONS[kind]
+    none = [(0, 0)] * len(rows)
+    if len(file) < HEADER[kind] + 8:
+        return 1, none
+    if file[:14] != MAGIC[kind]:
+        return 2, none
+    if file[14] != 4:
+        return 3, none
+    if FOOTER[kind] is not None and file[-8:] != FOOTER[kind]:
+        return 4, none
+    pairs = []
+    for k in range(len(rows)):
+        size, place = struct.unpack_from("<QQ", file, 16 + 16 * k)
+        pairs.append((place if size else 0, size))
+    for (least, align, _, _), (place, size) in zip(rows, pairs):
+        if size < least:
+            return 5, none
+        if size and not (HEADER[kind] <= place and place + size <= len(file) - 8 and place % align == 0):
+            return 5, none
+    for (least, _, strides, content), (place, size) in zip(rows, pairs):
+        for at, width, low in strides:
+            n = number(file, place + at, width)
+            if n < low or n % 8:
+                return 6, none
+        if not content_kept(file, place, size, least, content):
+            return 7, none
+    return 0, pairs
