@@ -9,3 +9,4 @@ test:
 
 cases:
 	python3 tools/open_cases.py
+	python3 tools/meta_cases.py

@@ -116,3 +116,116 @@ def opening(kind, file):
         if not content_kept(file, place, size, least, content):
             return 7, none
     return 0, pairs
+
+
+# ---- all of meta.db but its contexts. Answers are (number, values..., bytes); after a refusal values are 0 and there are no bytes
+class Refused(Exception):
+    pass
+
+
+def sections_of(file):
+    n, pairs = opening("meta", file)
+    if n:
+        raise Refused(n)
+    return pairs
+
+
+def string(file, section, place):
+    start, size = section
+    if not start <= place < start + size:
+        raise Refused(8)
+    end = file.find(b"\0", place, start + size)
+    if end < 0:
+        raise Refused(8)
+    return file[place:end]
+
+
+def stored(file, k, count=(8, 4), stride=(12, 2)):
+    """(place, count, stride) of section k's array"""
+    at = sections_of(file)[k][0]
+    return number(file, at, 8), number(file, at + count[0], count[1]), stride if isinstance(stride, int) else number(file, at + stride[0], stride[1])
+
+
+def names_array(file):
+    return stored(file, 1, (8, 1), 8)
+
+
+def metrics_array(file):
+    return stored(file, 2, (8, 4), (12, 1))
+
+
+def nth(a, i):
+    if i >= a[1]:
+        raise Refused(15)
+    return a[0] + i * a[2]
+
+
+def is_link(a, place):
+    return any(place == a[0] + i * a[2] for i in range(a[1]))
+
+
+def answer(values, read):
+    """What read() gives, or the refusal with as many zeros."""
+    try:
+        return (0,) + read()
+    except Refused as r:
+        return (r.args[0],) + (0,) * values + (b"",)
+
+
+def general(file, offset):
+    s = sections_of(file)[0]
+    return (string(file, s, number(file, s[0] + offset, 8)),)
+
+
+def kind(file, i):
+    return (string(file, sections_of(file)[1], number(file, nth(names_array(file), i), 8)),)
+
+
+def module(file, i):
+    return (string(file, sections_of(file)[4], number(file, nth(stored(file, 5), i) + 8, 8)),)
+
+
+def source(file, i):
+    at = nth(stored(file, 6), i)
+    path = string(file, sections_of(file)[4], number(file, at + 8, 8))
+    return (number(file, at, 4) & 1, path)
+
+
+def function(file, i):
+    """Module, offset, file, line; the name, or None."""
+    at = nth(stored(file, 7), i)
+    name, image, offset, src, line = (number(file, at + o, w) for o, w in ((0, 8), (8, 8), (16, 8), (24, 8), (32, 4)))
+    if not (name or image or src):
+        raise Refused(9)
+    if image and not is_link(stored(file, 5), image) or src and not is_link(stored(file, 6), src):
+        raise Refused(9)
+    return image, offset, src, line, string(file, sections_of(file)[4], name) if name else None
+
+
+def nested(file, outer, i, stride_at):
+    """Element i of an array in Metrics, and the array that it leads to."""
+    place, size = sections_of(file)[2]
+    at = nth(outer, i)
+    inner = number(file, at + 16, 8), number(file, at + 8, 2), number(file, place + stride_at, 1)
+    if inner[1] and not (inner[0] % 8 == 0 and place + 15 <= inner[0] and inner[0] + inner[1] * inner[2] <= place + size):
+        raise Refused(7)
+    return at, inner
+
+
+def metric(file, m):
+    at, scopes = nested(file, metrics_array(file), m, 13)
+    return scopes[1], string(file, sections_of(file)[2], number(file, at, 8))
+
+
+def scope_place(file, m, s):
+    return nested(file, nested(file, metrics_array(file), m, 13)[1], s, 14)
+
+
+def scope(file, m, s):
+    at, summaries = scope_place(file, m, s)
+    return summaries[1], number(file, at + 10, 2), string(file, sections_of(file)[2], number(file, at, 8))
+
+
+def summary(file, m, s, k):
+    at = nth(scope_place(file, m, s)[1], k)
+    return number(file, at + 8, 1), number(file, at + 10, 2), string(file, sections_of(file)[2], number(file, at, 8))

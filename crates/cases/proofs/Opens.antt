@@ -7,9 +7,9 @@ use Rattle.le.specs.Number.{number}
 use Rattle.layout.specs.Bytes.{bytes, fields, join}
 use Rattle.layout.specs.Stands.{starts, stands}
 use Rattle.refusal.specs.declared.Check.the-variants.{Passed}
-use Rattle.refusal.specs.Check.{rule, first}
+use Rattle.refusal.specs.Check.{rule, first, ifPassed}
 use Rattle.open.specs.Format.{meta}
-use Rattle.open.specs.Opening.{placeFor, pairAt, pairsFrom, pairs, sectionRule, strideRule, arrayRule, contextsRule, field, numberAt, strideRules, contentRule, headerRule, frontRules, inOrder, sectionCheck, headerCheck, openingWith, opening, ifPassed, opened}
+use Rattle.open.specs.Opening.{placeFor, pairAt, pairsFrom, pairs, sectionRule, strideRule, arrayRule, contextsRule, field, numberAt, strideRules, contentRule, headerRule, frontRules, inOrder, sectionCheck, headerCheck, openingWith, opening, opened}
 use Rattle.cases.specs.W.{parts, w, placesFrom}
 use Rattle.cases.specs.Opening.{w-sections}
 

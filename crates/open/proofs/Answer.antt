@@ -7,9 +7,10 @@ use Rattle.le.specs.Number.{number}
 use Rattle.refusal.specs.declared.Refusal.{Refusal}
 use Rattle.refusal.specs.declared.Check.{Check}
 use Rattle.refusal.specs.declared.Check.the-variants.{Passed, Refused}
-use Rattle.refusal.specs.Check.{rule, first, codeOf}
+use Rattle.refusal.specs.Check.{rule, first, codeOf, ifPassed}
 use Rattle.open.specs.Format.{Format, section, nothing}
-use Rattle.open.specs.Opening.{placeFor, pairAt, pairs, headerRule, headerCheck, strideRules, contentRule, openingWith, opening, blank, ifPassed, opened}
+use Rattle.open.specs.Opening.{placeFor, pairAt, pairs, headerRule, headerCheck, strideRules, contentRule, openingWith, opening, blank, opened}
+use Rattle.open.specs.Kept.{Sections}
 
 place-some : (size pointer : ℕ) → (size ≡ 0 → ⊥) → placeFor size pointer ≡ pointer
 unfolding placeFor
@@ -37,16 +38,32 @@ pub no-header : (file : List ℕ) (ps : List (List ℕ)) (k end align : ℕ) →
 unfolding headerCheck headerRule strideRules contentRule rule first
 no-header file ps k end align = refl
 
--- what an entry point hands back, from the pairs of the header, the check over them and its number
-module _ (f : Format) (file : List ℕ) {ps : List (List ℕ)} {c : Check} {n : ℕ} (p : ps ≡ pairs f file) (q : c ≡ openingWith f file ps) (e : n ≡ codeOf c) where
+-- what an entry point answers, from the pairs of the header and the check over them
+module _ (f : Format) (file : List ℕ) {ps : List (List ℕ)} {c : Check} (p : ps ≡ pairs f file) (q : c ≡ openingWith f file ps) where
   told : c ≡ opening f file
   unfolding opening
   told = q ∙ ap (openingWith f file) p
 
-  pub passed : c ≡ Passed → (ps ≡ opened f file) × (n ≡ codeOf (opening f file))
-  unfolding opened ifPassed
-  passed h = (rw (← told, h) p, e ∙ ap codeOf told)
+  pub told-passed : c ≡ Passed → Sections f file ps
+  told-passed h = record { same = p; passed = sym told ∙ h }
 
-  pub refused : (r : Refusal) → c ≡ Refused r → (blank (pairs f file) ≡ opened f file) × (n ≡ codeOf (opening f file))
-  unfolding opened ifPassed
-  refused r h = (rw (← told, h), e ∙ ap codeOf told)
+  pub answers : {A : Type 0} → (refused : Refusal → A) (answer : List (List ℕ) → A) → c ≡ Passed → answer ps ≡ ifPassed refused (opening f file) (answer (pairs f file))
+  unfolding ifPassed
+  answers refused answer h = rw (← told, h) (ap answer p)
+
+  pub refuses : {A : Type 0} → (refused : Refusal → A) (answer : A) (r : Refusal) → c ≡ Refused r → refused r ≡ ifPassed refused (opening f file) answer
+  unfolding ifPassed
+  refuses refused answer r h = rw (← told, h)
+
+  pub code-is : {n : ℕ} → n ≡ codeOf c → n ≡ codeOf (opening f file)
+  code-is e = e ∙ ap codeOf told
+
+  -- of opening itself: the pairs or zeros, and the number
+  module _ {n : ℕ} (e : n ≡ codeOf c) where
+    pub passed : c ≡ Passed → (ps ≡ opened f file) × (n ≡ codeOf (opening f file))
+    unfolding opened
+    passed h = (answers (λ r. blank (pairs f file)) (λ x. x) h, code-is e)
+
+    pub refused : (r : Refusal) → c ≡ Refused r → (blank (pairs f file) ≡ opened f file) × (n ≡ codeOf (opening f file))
+    unfolding opened
+    refused r h = (refuses (λ x. blank (pairs f file)) (pairs f file) r h, code-is e)

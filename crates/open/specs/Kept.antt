@@ -4,9 +4,10 @@ use mathlib.Core.List.{List, [], _∷_}
 use mathlib.Core.Path.{_≡_}
 use lib.ListN.{length}
 use Rattle.le.specs.Number.{number}
+use Rattle.refusal.specs.declared.Check.the-variants.{Passed}
 use Rattle.layout.specs.Stands.{Stands}
 use Rattle.open.specs.Format.{u64, Stride, Content, nothing, array, roots, Section, Format, sectionAt}
-use Rattle.open.specs.Opening.{field, numberAt, pairs, placeIn, sizeIn}
+use Rattle.open.specs.Opening.{field, numberAt, pairs, placeIn, sizeIn, opening}
 
 pub record SectionKept (header last end align place size : ℕ) : Type 0 where
   pub large : end ≤ size
@@ -52,3 +53,8 @@ pub record Opens (f : Format) (file : List ℕ) : Type 0 where
   pub version : number 1 file 14 ≡ 4
   pub footer : Stands file (length file - 8) (f .footer)
   pub section : (k : ℕ) → k < length (f .sections) → AllKept (f .header) file (sectionAt f k) (placeIn (pairs f file) k) (sizeIn (pairs f file) k)
+
+-- what a reader of sections is handed: the pairs of a file that opens
+pub record Sections (f : Format) (file : List ℕ) (ps : List (List ℕ)) : Type 0 where
+  pub same : ps ≡ pairs f file
+  pub passed : opening f file ≡ Passed

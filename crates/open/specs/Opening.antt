@@ -8,8 +8,8 @@ use Rattle.le.specs.Number.{number}
 use Rattle.range.specs.Range.{within, multiple}
 use Rattle.refusal.specs.declared.Refusal.the-variants as No
 use Rattle.refusal.specs.declared.Check.{Check}
-use Rattle.refusal.specs.declared.Check.the-variants.{Passed, Refused}
-use Rattle.refusal.specs.Check.{rule, first}
+use Rattle.refusal.specs.declared.Check.the-variants.{Passed}
+use Rattle.refusal.specs.Check.{rule, first, ifPassed}
 use Rattle.layout.specs.Stands.{stands}
 use Rattle.open.specs.Format.{Field, u64, Stride, Number, fixed, held, Content, nothing, array, roots, Section, Format}
 
@@ -121,9 +121,5 @@ unfoldable pub blank : List (List ℕ) → List (List ℕ)
 blank [] = []
 blank (p ∷ ps) = (0 ∷ 0 ∷ []) ∷ blank ps
 
-unfoldable pub ifPassed : Check → List (List ℕ) → List (List ℕ)
-ifPassed Passed ps = ps
-ifPassed (Refused r) ps = blank ps
-
 unfoldable pub opened : Format → List ℕ → List (List ℕ)
-opened f file = ifPassed (opening f file) (pairs f file)
+opened f file = ifPassed (λ r. blank (pairs f file)) (opening f file) (pairs f file)

@@ -20,3 +20,8 @@ rule false r = Refused r
 unfoldable pub first : Check → Check → Check
 first Passed b = b
 first (Refused r) b = Refused r
+
+-- what is answered once a check has passed, or by its refusal
+unfoldable pub ifPassed : {A : Type 0} → (Refusal → A) → Check → A → A
+ifPassed refused Passed answer = answer
+ifPassed refused (Refused r) answer = refused r

@@ -4,6 +4,7 @@ use mathlib.Core.Bool.{Bool, true, false}
 use mathlib.Core.List.{List, [], _∷_}
 use lib.Dec.{leb, ltb, eqb}
 use lib.ListN.{length, getD, take, drop}
+use Rattle.refusal.specs.declared.Refusal.{Refusal}
 use Rattle.refusal.specs.declared.Refusal.the-variants as No
 use Rattle.refusal.specs.Number.{numberOf}
 use Rattle.text.specs.declared.Text.{Text}
@@ -46,6 +47,16 @@ unfoldable pub textCode : Text → ℕ
 textCode (At place length) = 0
 textCode (Refused r) = numberOf r
 
+-- an answer in words: its number, then place and length
+unfoldable pub textWords : Text → List ℕ
+textWords (At place length) = 0 ∷ place ∷ length ∷ []
+textWords (Refused r) = numberOf r ∷ 0 ∷ 0 ∷ []
+
 unfoldable pub textBytes : List ℕ → Text → List ℕ
 textBytes file (At place length) = take length (drop place file)
 textBytes file (Refused r) = []
+
+-- what is answered of a string's place and length, or the refusal
+unfoldable pub onText : {A : Type 0} → (Refusal → A) → Text → (ℕ → ℕ → A) → A
+onText refused (At place length) answer = answer place length
+onText refused (Refused r) answer = refused r

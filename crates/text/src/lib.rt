@@ -87,7 +87,7 @@ pub fn bytes<'a>(file: &'a [u8], text: Text, refusal: &mut u64) -> &'a [u8]
 }
 
 // Some bytes from a place on, as far as the file has them.
-fn part<'a>(file: &'a [u8], place: u64, length: u64) -> &'a [u8]
+pub fn part<'a>(file: &'a [u8], place: u64, length: u64) -> &'a [u8]
     ensures { λ r. ⌜ now r ≡ take length (drop place (now (file .entry))) ⌝ }
 {
     let n = file.len() as u64;

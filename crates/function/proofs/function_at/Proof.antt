@@ -1,0 +1,34 @@
+-- By whether the file opens.
+use Rattle.function.specs.Function.{functionAt, functionIn}
+use Rattle.open.specs.Format.{meta}
+use Rattle.open.proofs.Answer.{answers, refuses, told-passed}
+use mathlib.Core.Path.{_∙_}
+use Rattle.function.specs.declared.Function.the-variants.{Refused}
+use borrow.Author.Needs.{needs}
+use Rattle.function.proofs.function_at.Statement.{statement}
+use Rattle.function.proofs.function_at.Tie as tie
+
+function-in-requires : tie.Need-function-in-requires
+function-in-requires c κs = told-passed meta _ (c .before .before .before .meta-sections .ensures) (c .before .before .check-meta .ensures) (c .enum-told .given .1)
+
+returns : tie.Need-returns
+unfolding functionAt
+returns c =
+    let file = c .before .before .before .before .before .before .args .file .now in
+    c .function-in .ensures ∙ answers meta file (c .before .before .before .before .meta-sections .ensures) (c .before .before .before .check-meta .ensures) Refused (λ ps. functionIn file ps (c .before .before .before .before .before .before .args .i)) (c .before .enum-told .given .1)
+
+returns-2 : tie.Need-returns-2
+unfolding functionAt
+returns-2 c = refuses meta _ (c .before .before .before .before .meta-sections .ensures) (c .before .before .before .check-meta .ensures) Refused _ _ (c .before .check .given .1)
+
+pub function-at-spec : {M : Type 1} → statement M
+function-at-spec =
+    tie.close
+    (tie.spec
+    (λ c κs. search needs)
+    (λ c κs. search needs)
+    (λ c. search needs)
+    function-in-requires
+    (λ c. search needs)
+    returns
+    returns-2)

@@ -1,0 +1,31 @@
+-- By the answer's case, and by whether there is a name.
+use Rattle.function.specs.Function.{nameBytes, nameWhich}
+use Rattle.function.proofs.Name.{or-none, or-some}
+use borrow.Author.Needs.{needs}
+use Rattle.function.proofs.name_bytes.Statement.{statement}
+use Rattle.function.proofs.name_bytes.Tie as tie
+
+returns : tie.Need-returns
+unfolding nameBytes nameWhich
+returns c = rw (c .before .before .answer .given .1) (or-none _ _ _ (c .if1 .taken))
+
+returns-2 : tie.Need-returns-2
+unfolding nameBytes nameWhich
+returns-2 c = rw (c .before .before .before .answer .given .1, c .part .ensures) (or-some _ _ _ (c .before .if1 .left))
+
+returns-3 : tie.Need-returns-3
+unfolding nameBytes nameWhich
+returns-3 c = (rw (c .before .before .before .answer2 .given .1), rw (c .before .before .before .answer2 .given .1, c .before .number .ensures))
+
+pub name-bytes-spec : {M : Type 1} → statement M
+name-bytes-spec =
+    tie.close
+    (tie.spec
+    (λ c. search needs)
+    returns
+    (λ c κs. search needs)
+    (λ c. search needs)
+    (λ c κs. search needs)
+    (λ c. search needs)
+    returns-2
+    returns-3)

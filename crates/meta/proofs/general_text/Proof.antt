@@ -1,0 +1,34 @@
+-- By whether the file opens.
+use mathlib.Core.Path.{_∙_}
+use Rattle.open.specs.Format.{meta}
+use Rattle.open.proofs.Answer.{answers, refuses}
+use Rattle.meta.specs.Names.{generalText, generalIn}
+use Rattle.text.specs.declared.Text.the-variants as text
+use borrow.Author.Needs.{needs}
+use Rattle.meta.proofs.general_text.Statement.{statement}
+use Rattle.meta.proofs.general_text.Tie as tie
+
+returns : tie.Need-returns
+unfolding generalText
+returns c =
+    let file = c .before .before .before .before .before .before .before .before .args .file .now in
+    c .string-of .ensures ∙ answers meta file (c .before .before .before .before .before .before .meta-sections .ensures) (c .before .before .before .before .before .check-meta .ensures) text.Refused (λ ps. generalIn file ps (c .before .before .before .before .before .before .before .before .args .offset)) (c .before .before .before .enum-told .given .1)
+
+returns-2 : tie.Need-returns-2
+unfolding generalText
+returns-2 c = refuses meta _ (c .before .before .before .before .meta-sections .ensures) (c .before .before .before .check-meta .ensures) text.Refused _ _ (c .before .check .given .1)
+
+pub general-text-spec : {M : Type 1} → statement M
+general-text-spec =
+    tie.close
+    (tie.spec
+    (λ c κs. search needs)
+    (λ c κs. search needs)
+    (λ c. search needs)
+    (λ c. search needs)
+    (λ c. search needs)
+    (λ c. search needs)
+    (λ c κs. search needs)
+    (λ c. search needs)
+    returns
+    returns-2)

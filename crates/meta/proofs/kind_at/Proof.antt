@@ -1,0 +1,42 @@
+-- By whether the file opens; then the array lies in it.
+use Rattle.open.specs.Format.{meta}
+use Rattle.open.proofs.Answer.{answers, refuses, told-passed}
+use Rattle.meta.specs.Names.{kindAt, kindIn}
+use Rattle.text.specs.declared.Text.the-variants as text
+use mathlib.Core.Path.{refl}
+use Rattle.open.specs.Format.{u8, fixed}
+use Rattle.array.proofs.Bounds.{bounded}
+use native.Mathlib.Omega.{arith}
+use borrow.Author.Needs.{needs}
+use Rattle.meta.proofs.kind_at.Statement.{statement}
+use Rattle.meta.proofs.kind_at.Tie as tie
+
+element-text-requires : tie.Need-element-text-requires
+element-text-requires c κs =
+    bounded meta (c .before .before .before .before .before .before .before .before .args .file .now) (omega arith) (told-passed meta _ (c .before .before .before .before .before .before .meta-sections .ensures) (c .before .before .before .before .before .check-meta .ensures) (c .before .before .before .enum-told .given .1)) 1 (omega arith) (u8 8) (fixed 8) refl (omega arith) (c .before .of-names .ensures)
+
+returns : tie.Need-returns
+unfolding kindAt
+returns c =
+    let file = c .before .before .before .before .before .before .before .before .before .args .file .now in
+    rw (c .element-text .ensures, c .before .before .of-names .ensures) (answers meta file (c .before .before .before .before .before .before .before .meta-sections .ensures) (c .before .before .before .before .before .before .check-meta .ensures) text.Refused (λ ps. kindIn file ps (c .before .before .before .before .before .before .before .before .before .args .kind)) (c .before .before .before .before .enum-told .given .1))
+
+returns-2 : tie.Need-returns-2
+unfolding kindAt
+returns-2 c = refuses meta _ (c .before .before .before .before .meta-sections .ensures) (c .before .before .before .check-meta .ensures) text.Refused _ _ (c .before .check .given .1)
+
+pub kind-at-spec : {M : Type 1} → statement M
+kind-at-spec =
+    tie.close
+    (tie.spec
+    (λ c κs. search needs)
+    (λ c κs. search needs)
+    (λ c. search needs)
+    (λ c. search needs)
+    (λ c. search needs)
+    (λ c κs. search needs)
+    (λ c. search needs)
+    element-text-requires
+    (λ c. search needs)
+    returns
+    returns-2)

@@ -1,0 +1,42 @@
+-- By whether the file opens; then the array lies in it.
+use Rattle.open.specs.Format.{meta}
+use Rattle.open.proofs.Answer.{answers, refuses, told-passed}
+use Rattle.meta.specs.Names.{sourceAt, sourceIn}
+use Rattle.meta.specs.declared.SourceFile.the-variants.{Refused}
+use mathlib.Core.Path.{refl}
+use Rattle.open.specs.Format.{u16, u32, held}
+use Rattle.array.proofs.Bounds.{bounded}
+use native.Mathlib.Omega.{arith}
+use borrow.Author.Needs.{needs}
+use Rattle.meta.proofs.source_file.Statement.{statement}
+use Rattle.meta.proofs.source_file.Tie as tie
+
+source-in-requires : tie.Need-source-in-requires
+source-in-requires c κs =
+    bounded meta (c .before .before .before .before .before .before .before .before .args .file .now) (omega arith) (told-passed meta _ (c .before .before .before .before .before .before .meta-sections .ensures) (c .before .before .before .before .before .check-meta .ensures) (c .before .before .before .enum-told .given .1)) 6 (omega arith) (u32 8) (held (u16 12)) refl (omega arith) (c .before .of-specs .ensures)
+
+returns : tie.Need-returns
+unfolding sourceAt
+returns c =
+    let file = c .before .before .before .before .before .before .before .before .before .args .file .now in
+    rw (c .source-in .ensures, c .before .before .of-specs .ensures) (answers meta file (c .before .before .before .before .before .before .before .meta-sections .ensures) (c .before .before .before .before .before .before .check-meta .ensures) Refused (λ ps. sourceIn file ps (c .before .before .before .before .before .before .before .before .before .args .i)) (c .before .before .before .before .enum-told .given .1))
+
+returns-2 : tie.Need-returns-2
+unfolding sourceAt
+returns-2 c = refuses meta _ (c .before .before .before .before .meta-sections .ensures) (c .before .before .before .check-meta .ensures) Refused _ _ (c .before .check .given .1)
+
+pub source-file-spec : {M : Type 1} → statement M
+source-file-spec =
+    tie.close
+    (tie.spec
+    (λ c κs. search needs)
+    (λ c κs. search needs)
+    (λ c. search needs)
+    (λ c. search needs)
+    (λ c. search needs)
+    (λ c κs. search needs)
+    (λ c. search needs)
+    source-in-requires
+    (λ c. search needs)
+    returns
+    returns-2)

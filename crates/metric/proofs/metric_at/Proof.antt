@@ -1,0 +1,38 @@
+-- By whether the file opens.
+use Rattle.metric.specs.Levels.{metricAt, metricOf, metricNested}
+use Rattle.open.specs.Format.{meta}
+use Rattle.open.proofs.Answer.{answers, refuses, told-passed}
+use Rattle.metric.specs.declared.Metric.the-variants as metric
+use lib.ListN.{getD}
+use mathlib.Core.List.{[]}
+use borrow.Author.Needs.{needs}
+use Rattle.metric.proofs.metric_at.Statement.{statement}
+use Rattle.metric.proofs.metric_at.Tie as tie
+
+metric-nested-requires : tie.Need-metric-nested-requires
+metric-nested-requires c κs = told-passed meta _ (c .before .before .before .before .meta-sections .ensures) (c .before .before .before .check-meta .ensures) (c .before .enum-told .given .1)
+
+returns : tie.Need-returns
+unfolding metricAt
+returns c =
+    let file = c .before .before .before .before .before .before .before .before .args .file .now in
+    rw (c .metric-of .ensures, c .before .metric-nested .ensures .0)
+    (answers meta file (c .before .before .before .before .before .before .meta-sections .ensures) (c .before .before .before .before .before .check-meta .ensures) metric.Refused (λ ps. metricOf file (getD ps 2 []) (metricNested file ps (c .before .before .before .before .before .before .before .before .args .m))) (c .before .before .before .enum-told .given .1))
+
+returns-2 : tie.Need-returns-2
+unfolding metricAt
+returns-2 c = refuses meta _ (c .before .before .before .before .meta-sections .ensures) (c .before .before .before .check-meta .ensures) metric.Refused _ _ (c .before .check .given .1)
+
+pub metric-at-spec : {M : Type 1} → statement M
+metric-at-spec =
+    tie.close
+    (tie.spec
+    (λ c κs. search needs)
+    (λ c κs. search needs)
+    (λ c. search needs)
+    (λ c. search needs)
+    metric-nested-requires
+    (λ c κs. search needs)
+    (λ c. search needs)
+    returns
+    returns-2)

@@ -1,0 +1,28 @@
+-- The metrics lie in the file, which opens.
+use Rattle.array.proofs.Bounds.{bounded}
+use native.Mathlib.Omega.{arith}
+use Rattle.open.specs.Format.{meta, u8, u32, held}
+use mathlib.Core.Path.{refl}
+use Rattle.metric.proofs.Inner.{nested-bounded}
+use borrow.Author.Needs.{needs}
+use Rattle.metric.proofs.metric_nested.Statement.{statement}
+use Rattle.metric.proofs.metric_nested.Tie as tie
+
+nested-at-requires : tie.Need-nested-at-requires
+nested-at-requires c κs = bounded meta (c .before .before .before .before .before .args .file .now) (omega arith) (c .before .before .before .before .before .pre) 2 (omega arith) (u32 8) (held (u8 12)) refl (omega arith) (c .before .before .of-infos .ensures)
+
+returns : tie.Need-returns
+returns c = (rw (c .nested-at .ensures, c .before .before .before .of-infos .ensures, c .before .before .u8-at .ensures), nested-bounded (c .before .before .before .before .before .before .args .file .now) (omega arith) (c .before .before .before .before .before .before .pre) _ _ _ (c .nested-at .ensures))
+
+pub metric-nested-spec : {M : Type 1} → statement M
+metric-nested-spec =
+    tie.close
+    (tie.spec
+    (λ c. search needs)
+    (λ c. search needs)
+    (λ c κs. search needs)
+    (λ c κs. search needs)
+    (λ c. search needs)
+    (λ c. search needs)
+    nested-at-requires
+    returns)

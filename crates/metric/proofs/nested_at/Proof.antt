@@ -1,0 +1,19 @@
+-- By whether the element is there.
+use Rattle.metric.specs.Levels.{nestedAt}
+use Rattle.array.specs.Element.{onElement}
+use borrow.Author.Needs.{needs}
+use Rattle.metric.proofs.nested_at.Statement.{statement}
+use Rattle.metric.proofs.nested_at.Tie as tie
+
+returns : tie.Need-returns
+unfolding nestedAt onElement
+returns c = rw (c .nested-of .ensures, ← c .before .before .before .before .nth .ensures, c .before .before .place .given .1)
+
+returns-2 : tie.Need-returns-2
+unfolding nestedAt onElement
+returns-2 c = rw (← c .before .before .before .nth .ensures, c .before .r .given .1)
+
+pub nested-at-spec : {M : Type 1} → statement M
+nested-at-spec =
+    tie.close
+    (tie.spec (λ c κs. search needs) (λ c. search needs) (λ c κs. search needs) (λ c. search needs) returns returns-2)

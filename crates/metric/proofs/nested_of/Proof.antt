@@ -1,0 +1,26 @@
+-- By the array's rule.
+use Rattle.metric.specs.Levels.{nestedOf, nestedIf}
+use borrow.Author.Needs.{needs}
+use Rattle.metric.proofs.nested_of.Statement.{statement}
+use Rattle.metric.proofs.nested_of.Tie as tie
+
+returns : tie.Need-returns
+unfolding nestedOf nestedIf
+returns c = rw (← c .before .before .before .u64-at .ensures, ← c .before .before .u16-at .ensures, ← c .before .array-rule .ensures, c .if1 .taken)
+
+returns-2 : tie.Need-returns-2
+unfolding nestedOf nestedIf
+returns-2 c = rw (← c .before .before .before .u64-at .ensures, ← c .before .before .u16-at .ensures, ← c .before .array-rule .ensures, c .if1 .left)
+
+pub nested-of-spec : {M : Type 1} → statement M
+nested-of-spec =
+    tie.close
+    (tie.spec
+    (λ c κs. search needs)
+    (λ c κs. search needs)
+    (λ c. search needs)
+    (λ c. search needs)
+    (λ c. search needs)
+    (λ c κs. search needs)
+    returns
+    returns-2)

@@ -1,0 +1,38 @@
+-- By whether the file opens.
+use Rattle.metric.specs.Levels.{scopeAt, scopeOf, scopeNested}
+use Rattle.open.specs.Format.{meta}
+use Rattle.open.proofs.Answer.{answers, refuses, told-passed}
+use Rattle.metric.specs.declared.Scope.the-variants as scope
+use lib.ListN.{getD}
+use mathlib.Core.List.{[]}
+use borrow.Author.Needs.{needs}
+use Rattle.metric.proofs.scope_at.Statement.{statement}
+use Rattle.metric.proofs.scope_at.Tie as tie
+
+scope-nested-requires : tie.Need-scope-nested-requires
+scope-nested-requires c κs = told-passed meta _ (c .before .before .before .before .meta-sections .ensures) (c .before .before .before .check-meta .ensures) (c .before .enum-told .given .1)
+
+returns : tie.Need-returns
+unfolding scopeAt
+returns c =
+    let file = c .before .before .before .before .before .before .before .before .args .file .now in
+    rw (c .scope-of .ensures, c .before .scope-nested .ensures .0)
+    (answers meta file (c .before .before .before .before .before .before .meta-sections .ensures) (c .before .before .before .before .before .check-meta .ensures) scope.Refused (λ ps. scopeOf file (getD ps 2 []) (scopeNested file ps (c .before .before .before .before .before .before .before .before .args .m) (c .before .before .before .before .before .before .before .before .args .s))) (c .before .before .before .enum-told .given .1))
+
+returns-2 : tie.Need-returns-2
+unfolding scopeAt
+returns-2 c = refuses meta _ (c .before .before .before .before .meta-sections .ensures) (c .before .before .before .check-meta .ensures) scope.Refused _ _ (c .before .check .given .1)
+
+pub scope-at-spec : {M : Type 1} → statement M
+scope-at-spec =
+    tie.close
+    (tie.spec
+    (λ c κs. search needs)
+    (λ c κs. search needs)
+    (λ c. search needs)
+    (λ c. search needs)
+    scope-nested-requires
+    (λ c κs. search needs)
+    (λ c. search needs)
+    returns
+    returns-2)

@@ -1,0 +1,26 @@
+-- By whether the name is there.
+use Rattle.metric.specs.Levels.{scopeFound}
+use Rattle.text.specs.String.{onText}
+use borrow.Author.Needs.{needs}
+use Rattle.metric.proofs.scope_found.Statement.{statement}
+use Rattle.metric.proofs.scope_found.Tie as tie
+
+returns : tie.Need-returns
+unfolding scopeFound onText
+returns c = rw (← c .before .before .before .string-of .ensures, c .before .place .given .1, c .before .before .before .before .u16-at .ensures)
+
+returns-2 : tie.Need-returns-2
+unfolding scopeFound onText
+returns-2 c = rw (← c .before .before .before .string-of .ensures, c .before .r .given .1)
+
+pub scope-found-spec : {M : Type 1} → statement M
+scope-found-spec =
+    tie.close
+    (tie.spec
+    (λ c κs. search needs)
+    (λ c. search needs)
+    (λ c κs. search needs)
+    (λ c. search needs)
+    (λ c. search needs)
+    returns
+    returns-2)

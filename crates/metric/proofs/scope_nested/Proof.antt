@@ -1,0 +1,34 @@
+-- By the metric; its scopes lie in the section, which lies in the file.
+use Rattle.metric.specs.Levels.{onNested}
+use Rattle.metric.proofs.Inner.{nested-bounded}
+use native.Mathlib.Omega.{arith}
+use borrow.Author.Needs.{needs}
+use Rattle.metric.proofs.scope_nested.Statement.{statement}
+use Rattle.metric.proofs.scope_nested.Tie as tie
+
+nested-at-requires : tie.Need-nested-at-requires
+nested-at-requires c κs = rw (c .before .before .before .before .metric .given .1) at (c .before .before .before .before .before .before .metric-nested .ensures .1)
+
+returns : tie.Need-returns
+unfolding onNested
+returns c = (rw (c .nested-at .ensures, c .before .before .u8-at .ensures, ← c .before .before .before .before .before .before .before .metric-nested .ensures .0, c .before .before .before .before .before .metric .given .1), nested-bounded (c .before .before .before .before .before .before .before .before .before .args .file .now) (omega arith) (c .before .before .before .before .before .before .before .before .before .pre) _ _ _ (c .nested-at .ensures))
+
+returns-2 : tie.Need-returns-2
+unfolding onNested
+returns-2 c = (rw (← c .before .before .before .metric-nested .ensures .0, c .before .metric2 .given .1), tt)
+
+pub scope-nested-spec : {M : Type 1} → statement M
+scope-nested-spec =
+    tie.close
+    (tie.spec
+    (λ c κs. search needs)
+    (λ c. search needs)
+    (λ c. search needs)
+    (λ c. search needs)
+    (λ c κs. search needs)
+    (λ c. search needs)
+    (λ c. search needs)
+    nested-at-requires
+    (λ c. search needs)
+    returns
+    returns-2)

@@ -1,0 +1,19 @@
+-- By whether the element is there.
+use Rattle.metric.specs.Levels.{summaryIn}
+use Rattle.array.specs.Element.{onElement}
+use borrow.Author.Needs.{needs}
+use Rattle.metric.proofs.summary_in.Statement.{statement}
+use Rattle.metric.proofs.summary_in.Tie as tie
+
+returns : tie.Need-returns
+unfolding summaryIn onElement
+returns c = rw (c .summary-found .ensures, ← c .before .before .before .before .nth .ensures, c .before .before .place .given .1)
+
+returns-2 : tie.Need-returns-2
+unfolding summaryIn onElement
+returns-2 c = rw (← c .before .before .before .nth .ensures, c .before .r .given .1)
+
+pub summary-in-spec : {M : Type 1} → statement M
+summary-in-spec =
+    tie.close
+    (tie.spec (λ c κs. search needs) (λ c. search needs) (λ c κs. search needs) (λ c. search needs) returns returns-2)
