@@ -5,10 +5,18 @@ use Rattle.array.proofs.nth.Statement.{statement}
 use Rattle.array.proofs.nth.Tie as tie
 
 mul-t5 : tie.Need-mul-t5
-mul-t5 c = omega (arith, place-fits (c .before .before .before .args .a) (c .before .before .before .args .i) (c .before .before .before .pre) (c .before .if1 .taken))
+mul-t5 c =
+    let args = c .before .before .before .args in
+    let pre = c .before .before .before .pre in
+    let if1 = c .before .if1 in
+    omega (arith, place-fits (args .a) (args .i) pre (if1 .taken))
 
 add-t6 : tie.Need-add-t6
-add-t6 c = omega (arith, place-fits (c .before .before .before .before .args .a) (c .before .before .before .before .args .i) (c .before .before .before .before .pre) (c .before .before .if1 .taken))
+add-t6 c =
+    let args = c .before .before .before .before .args in
+    let pre = c .before .before .before .before .pre in
+    let if1 = c .before .before .if1 in
+    omega (arith, place-fits (args .a) (args .i) pre (if1 .taken))
 
 returns : tie.Need-returns
 returns c = is-there _ _ (c .before .before .if1 .taken)

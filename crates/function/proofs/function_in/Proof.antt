@@ -9,15 +9,30 @@ use Rattle.function.proofs.function_in.Statement.{statement}
 use Rattle.function.proofs.function_in.Tie as tie
 
 nth-requires : tie.Need-nth-requires
-nth-requires c κs = bounded meta (c .before .before .before .before .before .before .before .args .file .now) (omega arith) (c .before .before .before .before .before .before .before .pre) 7 (omega arith) (u32 8) (held (u16 12)) refl (omega arith) (c .of-specs3 .ensures)
+nth-requires c κs =
+    let args = c .before .before .before .before .before .before .before .args in
+    let pre = c .before .before .before .before .before .before .before .pre in
+    bounded meta (args .file .now) (omega arith) pre 7 (omega arith) (u32 8) (held (u16 12)) refl (omega arith) (c .of-specs3 .ensures)
 
 returns : tie.Need-returns
 unfolding onElement
-returns c = rw (c .function-of .ensures, ← c .before .before .before .before .before .before .before .before .before .before .of-specs .ensures, ← c .before .before .before .before .before .before .before .before .of-specs2 .ensures, ← c .before .before .before .before .before .before .of-specs3 .ensures, ← c .before .before .before .before .before .nth .ensures, c .before .before .before .at .given .1)
+returns c =
+    let of-specs = c .before .before .before .before .before .before .before .before .before .before .of-specs in
+    let of-specs2 = c .before .before .before .before .before .before .before .before .of-specs2 in
+    let of-specs3 = c .before .before .before .before .before .before .of-specs3 in
+    let nth = c .before .before .before .before .before .nth in
+    let at = c .before .before .before .at in
+    rw (c .function-of .ensures, ← of-specs .ensures, ← of-specs2 .ensures, ← of-specs3 .ensures, ← nth .ensures, at .given .1)
 
 returns-2 : tie.Need-returns-2
 unfolding onElement
-returns-2 c = rw (← c .before .before .before .before .before .before .before .before .of-specs .ensures, ← c .before .before .before .before .before .before .of-specs2 .ensures, ← c .before .before .before .before .of-specs3 .ensures, ← c .before .before .before .nth .ensures, c .before .r .given .1)
+returns-2 c =
+    let of-specs = c .before .before .before .before .before .before .before .before .of-specs in
+    let of-specs2 = c .before .before .before .before .before .before .of-specs2 in
+    let of-specs3 = c .before .before .before .before .of-specs3 in
+    let nth = c .before .before .before .nth in
+    let r = c .before .r in
+    rw (← of-specs .ensures, ← of-specs2 .ensures, ← of-specs3 .ensures, ← nth .ensures, r .given .1)
 
 pub function-in-spec : {M : Type 1} → statement M
 function-in-spec =

@@ -4,7 +4,9 @@ use Rattle.function.proofs.function_name.Statement.{statement}
 use Rattle.function.proofs.function_name.Tie as tie
 
 returns : tie.Need-returns
-returns c = (rw (c .name-bytes .ensures .0, c .before .before .function-at .ensures), rw (c .name-bytes .ensures .1, c .before .before .function-at .ensures))
+returns c =
+    let function-at = c .before .before .function-at in
+    (rw (c .name-bytes .ensures .0, function-at .ensures), rw (c .name-bytes .ensures .1, function-at .ensures))
 
 pub function-name-spec : {M : Type 1} → statement M
 function-name-spec = tie.close (tie.spec (λ c κs. search needs) (λ c κs. search needs) returns)

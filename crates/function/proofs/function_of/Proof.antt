@@ -8,15 +8,42 @@ use Rattle.function.proofs.function_of.Tie as tie
 
 returns : tie.Need-returns
 unfolding functionOf ifPassed rule onText
-returns c = rw (← c .before .before .before .before .before .before .u32-at .ensures, ← c .before .before .before .before .before .before .before .u64-at4 .ensures, ← c .before .before .before .before .before .before .before .before .u64-at3 .ensures, ← c .before .before .before .before .before .before .before .before .before .u64-at2 .ensures, ← c .before .before .before .before .before .before .before .before .before .before .u64-at .ensures, ← c .before .before .before .before .before .links-kept .ensures, c .before .before .before .before .if1 .taken, ← c .before .before .before .name-text .ensures, c .before .place .given .1)
+returns c =
+    let u32-at = c .before .before .before .before .before .before .u32-at in
+    let u64-at4 = c .before .before .before .before .before .before .before .u64-at4 in
+    let u64-at3 = c .before .before .before .before .before .before .before .before .u64-at3 in
+    let u64-at2 = c .before .before .before .before .before .before .before .before .before .u64-at2 in
+    let u64-at = c .before .before .before .before .before .before .before .before .before .before .u64-at in
+    let links-kept = c .before .before .before .before .before .links-kept in
+    let if1 = c .before .before .before .before .if1 in
+    let name-text = c .before .before .before .name-text in
+    let place = c .before .place in
+    rw (← u32-at .ensures, ← u64-at4 .ensures, ← u64-at3 .ensures, ← u64-at2 .ensures, ← u64-at .ensures, ← links-kept .ensures, if1 .taken, ← name-text .ensures, place .given .1)
 
 returns-2 : tie.Need-returns-2
 unfolding functionOf ifPassed rule onText
-returns-2 c = rw (← c .before .before .before .before .before .before .u32-at .ensures, ← c .before .before .before .before .before .before .before .u64-at4 .ensures, ← c .before .before .before .before .before .before .before .before .u64-at3 .ensures, ← c .before .before .before .before .before .before .before .before .before .u64-at2 .ensures, ← c .before .before .before .before .before .before .before .before .before .before .u64-at .ensures, ← c .before .before .before .before .before .links-kept .ensures, c .before .before .before .before .if1 .taken, ← c .before .before .before .name-text .ensures, c .before .r .given .1)
+returns-2 c =
+    let u32-at = c .before .before .before .before .before .before .u32-at in
+    let u64-at4 = c .before .before .before .before .before .before .before .u64-at4 in
+    let u64-at3 = c .before .before .before .before .before .before .before .before .u64-at3 in
+    let u64-at2 = c .before .before .before .before .before .before .before .before .before .u64-at2 in
+    let u64-at = c .before .before .before .before .before .before .before .before .before .before .u64-at in
+    let links-kept = c .before .before .before .before .before .links-kept in
+    let if1 = c .before .before .before .before .if1 in
+    let name-text = c .before .before .before .name-text in
+    let r = c .before .r in
+    rw (← u32-at .ensures, ← u64-at4 .ensures, ← u64-at3 .ensures, ← u64-at2 .ensures, ← u64-at .ensures, ← links-kept .ensures, if1 .taken, ← name-text .ensures, r .given .1)
 
 returns-3 : tie.Need-returns-3
 unfolding functionOf ifPassed rule onText
-returns-3 c = rw (← c .before .before .u32-at .ensures, ← c .before .before .before .u64-at4 .ensures, ← c .before .before .before .before .u64-at3 .ensures, ← c .before .before .before .before .before .u64-at2 .ensures, ← c .before .before .before .before .before .before .u64-at .ensures, ← c .before .links-kept .ensures, c .if1 .left)
+returns-3 c =
+    let u32-at = c .before .before .u32-at in
+    let u64-at4 = c .before .before .before .u64-at4 in
+    let u64-at3 = c .before .before .before .before .u64-at3 in
+    let u64-at2 = c .before .before .before .before .before .u64-at2 in
+    let u64-at = c .before .before .before .before .before .before .u64-at in
+    let links-kept = c .before .links-kept in
+    rw (← u32-at .ensures, ← u64-at4 .ensures, ← u64-at3 .ensures, ← u64-at2 .ensures, ← u64-at .ensures, ← links-kept .ensures, c .if1 .left)
 
 pub function-of-spec : {M : Type 1} → statement M
 function-of-spec =

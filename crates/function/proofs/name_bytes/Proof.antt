@@ -15,7 +15,10 @@ returns-2 c = rw (c .before .before .before .answer .given .1, c .part .ensures)
 
 returns-3 : tie.Need-returns-3
 unfolding nameBytes nameWhich
-returns-3 c = (rw (c .before .before .before .answer2 .given .1), rw (c .before .before .before .answer2 .given .1, c .before .number .ensures))
+returns-3 c =
+    let answer2 = c .before .before .before .answer2 in
+    let number = c .before .number in
+    (rw (answer2 .given .1), rw (answer2 .given .1, number .ensures))
 
 pub name-bytes-spec : {M : Type 1} → statement M
 name-bytes-spec =

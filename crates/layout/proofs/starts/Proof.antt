@@ -31,8 +31,10 @@ shared-slice-read-if2-2 c = omega arith
 
 returns-2 : tie.Need-returns-2 Inv-loop μ-loop
 returns-2 c =
-    let a = c .before .before .before .before .before .before .args in
-    let i = c .before .before .before .before .loop in
+    let args = c .before .before .before .before .before .before .args in
+    let loop = c .before .before .before .before .loop in
+    let a = args in
+    let i = loop in
     sym (sym (i .inv .2) ∙ next (a .bytes .now) (a .file .now) (i .i) (omega arith) (omega arith) ∙ rw (ne-eqb _ _ (c .if2 .taken)))
 
 add-i : tie.Need-add-i Inv-loop μ-loop
@@ -43,8 +45,10 @@ loop-less c = omega arith
 
 loop-again : tie.Need-loop-again Inv-loop μ-loop
 loop-again c =
-    let a = c .before .before .before .before .before .before .args in
-    let i = c .before .before .before .before .loop in
+    let args = c .before .before .before .before .before .before .args in
+    let loop = c .before .before .before .before .loop in
+    let a = args in
+    let i = loop in
     (omega arith, omega arith, sym (next (a .bytes .now) (a .file .now) (i .i) (omega arith) (omega arith) ∙ rw (eq-eqb _ _ (c .if2 .left))) ∙ i .inv .2)
 
 returns-3 : tie.Need-returns-3 Inv-loop μ-loop

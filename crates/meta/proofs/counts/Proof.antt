@@ -12,21 +12,27 @@ use Rattle.meta.proofs.counts.Tie as tie
 returns : tie.Need-returns
 unfolding counts arrayOf field
 returns c =
-    let file = c .before .before .before .before .before .before .before .before .before .before .before .before .before .before .before .before .args .file .now in (
+    let d = c .before .before .before .before .before .before .before .before in
+    let e = d .before .before .before .before .before .before .before .before in
+    let file = e .args .file .now in (
       rw (
         c .u32-at4 .ensures,
         c .before .before .u32-at3 .ensures,
         c .before .before .before .before .u32-at2 .ensures,
         c .before .before .before .before .before .before .u32-at .ensures,
-        c .before .before .before .before .before .before .before .before .u8-at .ensures,
+        d .u8-at .ensures,
       )
-          (answers meta file (c .before .before .before .before .before .before .before .before .before .before .before .before .before .before .meta-sections .ensures) (c .before .before .before .before .before .before .before .before .before .before .before .before .before .check-meta .ensures) (λ r. 0 ∷ 0 ∷ 0 ∷ 0 ∷ 0 ∷ []) (λ ps. countsIn file ps) (c .before .before .before .before .before .before .before .before .before .before .enum-told .given .1)),
-      code-is meta file (c .before .before .before .before .before .before .before .before .before .before .before .before .before .before .meta-sections .ensures) (c .before .before .before .before .before .before .before .before .before .before .before .before .before .check-meta .ensures) (c .before .before .before .before .before .before .before .before .before .before .before .before .code .ensures),
+          (answers meta file (d .before .before .before .before .before .before .meta-sections .ensures) (d .before .before .before .before .before .check-meta .ensures) (λ r. 0 ∷ 0 ∷ 0 ∷ 0 ∷ 0 ∷ []) (λ ps. countsIn file ps) (d .before .before .enum-told .given .1)),
+      code-is meta file (d .before .before .before .before .before .before .meta-sections .ensures) (d .before .before .before .before .before .check-meta .ensures) (d .before .before .before .before .code .ensures),
     )
 
 returns-2 : tie.Need-returns-2
 unfolding counts
-returns-2 c = (refuses meta _ (c .before .before .before .before .meta-sections .ensures) (c .before .before .before .check-meta .ensures) (λ r. 0 ∷ 0 ∷ 0 ∷ 0 ∷ 0 ∷ []) _ _ (c .enum-told2 .given .1), code-is meta _ (c .before .before .before .before .meta-sections .ensures) (c .before .before .before .check-meta .ensures) (c .before .before .code .ensures))
+returns-2 c =
+    let meta-sections = c .before .before .before .before .meta-sections in
+    let check-meta = c .before .before .before .check-meta in
+    let code = c .before .before .code in
+    (refuses meta _ (meta-sections .ensures) (check-meta .ensures) (λ r. 0 ∷ 0 ∷ 0 ∷ 0 ∷ 0 ∷ []) _ _ (c .enum-told2 .given .1), code-is meta _ (meta-sections .ensures) (check-meta .ensures) (code .ensures))
 
 pub counts-spec : {M : Type 1} → statement M
 counts-spec =

@@ -7,7 +7,10 @@ use Rattle.meta.proofs.element_text.Tie as tie
 
 returns : tie.Need-returns
 unfolding elementText onElement
-returns c = rw (c .string-of .ensures, ← c .before .before .before .before .nth .ensures, c .before .before .place .given .1)
+returns c =
+    let nth = c .before .before .before .before .nth in
+    let place = c .before .before .place in
+    rw (c .string-of .ensures, ← nth .ensures, place .given .1)
 
 returns-2 : tie.Need-returns-2
 unfolding elementText onElement

@@ -11,12 +11,20 @@ use Rattle.meta.proofs.general_text.Tie as tie
 returns : tie.Need-returns
 unfolding generalText
 returns c =
-    let file = c .before .before .before .before .before .before .before .before .args .file .now in
-    c .string-of .ensures ∙ answers meta file (c .before .before .before .before .before .before .meta-sections .ensures) (c .before .before .before .before .before .check-meta .ensures) text.Refused (λ ps. generalIn file ps (c .before .before .before .before .before .before .before .before .args .offset)) (c .before .before .before .enum-told .given .1)
+    let args = c .before .before .before .before .before .before .before .before .args in
+    let meta-sections = c .before .before .before .before .before .before .meta-sections in
+    let check-meta = c .before .before .before .before .before .check-meta in
+    let enum-told = c .before .before .before .enum-told in
+    let file = args .file .now in
+    c .string-of .ensures ∙ answers meta file (meta-sections .ensures) (check-meta .ensures) text.Refused (λ ps. generalIn file ps (args .offset)) (enum-told .given .1)
 
 returns-2 : tie.Need-returns-2
 unfolding generalText
-returns-2 c = refuses meta _ (c .before .before .before .before .meta-sections .ensures) (c .before .before .before .check-meta .ensures) text.Refused _ _ (c .before .check .given .1)
+returns-2 c =
+    let meta-sections = c .before .before .before .before .meta-sections in
+    let check-meta = c .before .before .before .check-meta in
+    let check = c .before .check in
+    refuses meta _ (meta-sections .ensures) (check-meta .ensures) text.Refused _ _ (check .given .1)
 
 pub general-text-spec : {M : Type 1} → statement M
 general-text-spec =

@@ -13,17 +13,31 @@ use Rattle.meta.proofs.kind_at.Tie as tie
 
 element-text-requires : tie.Need-element-text-requires
 element-text-requires c κs =
-    bounded meta (c .before .before .before .before .before .before .before .before .args .file .now) (omega arith) (told-passed meta _ (c .before .before .before .before .before .before .meta-sections .ensures) (c .before .before .before .before .before .check-meta .ensures) (c .before .before .before .enum-told .given .1)) 1 (omega arith) (u8 8) (fixed 8) refl (omega arith) (c .before .of-names .ensures)
+    let args = c .before .before .before .before .before .before .before .before .args in
+    let meta-sections = c .before .before .before .before .before .before .meta-sections in
+    let check-meta = c .before .before .before .before .before .check-meta in
+    let enum-told = c .before .before .before .enum-told in
+    let of-names = c .before .of-names in
+    bounded meta (args .file .now) (omega arith) (told-passed meta _ (meta-sections .ensures) (check-meta .ensures) (enum-told .given .1)) 1 (omega arith) (u8 8) (fixed 8) refl (omega arith) (of-names .ensures)
 
 returns : tie.Need-returns
 unfolding kindAt
 returns c =
-    let file = c .before .before .before .before .before .before .before .before .before .args .file .now in
-    rw (c .element-text .ensures, c .before .before .of-names .ensures) (answers meta file (c .before .before .before .before .before .before .before .meta-sections .ensures) (c .before .before .before .before .before .before .check-meta .ensures) text.Refused (λ ps. kindIn file ps (c .before .before .before .before .before .before .before .before .before .args .kind)) (c .before .before .before .before .enum-told .given .1))
+    let args = c .before .before .before .before .before .before .before .before .before .args in
+    let of-names = c .before .before .of-names in
+    let meta-sections = c .before .before .before .before .before .before .before .meta-sections in
+    let check-meta = c .before .before .before .before .before .before .check-meta in
+    let enum-told = c .before .before .before .before .enum-told in
+    let file = args .file .now in
+    rw (c .element-text .ensures, of-names .ensures) (answers meta file (meta-sections .ensures) (check-meta .ensures) text.Refused (λ ps. kindIn file ps (args .kind)) (enum-told .given .1))
 
 returns-2 : tie.Need-returns-2
 unfolding kindAt
-returns-2 c = refuses meta _ (c .before .before .before .before .meta-sections .ensures) (c .before .before .before .check-meta .ensures) text.Refused _ _ (c .before .check .given .1)
+returns-2 c =
+    let meta-sections = c .before .before .before .before .meta-sections in
+    let check-meta = c .before .before .before .check-meta in
+    let check = c .before .check in
+    refuses meta _ (meta-sections .ensures) (check-meta .ensures) text.Refused _ _ (check .given .1)
 
 pub kind-at-spec : {M : Type 1} → statement M
 kind-at-spec =

@@ -13,17 +13,31 @@ use Rattle.meta.proofs.source_file.Tie as tie
 
 source-in-requires : tie.Need-source-in-requires
 source-in-requires c κs =
-    bounded meta (c .before .before .before .before .before .before .before .before .args .file .now) (omega arith) (told-passed meta _ (c .before .before .before .before .before .before .meta-sections .ensures) (c .before .before .before .before .before .check-meta .ensures) (c .before .before .before .enum-told .given .1)) 6 (omega arith) (u32 8) (held (u16 12)) refl (omega arith) (c .before .of-specs .ensures)
+    let args = c .before .before .before .before .before .before .before .before .args in
+    let meta-sections = c .before .before .before .before .before .before .meta-sections in
+    let check-meta = c .before .before .before .before .before .check-meta in
+    let enum-told = c .before .before .before .enum-told in
+    let of-specs = c .before .of-specs in
+    bounded meta (args .file .now) (omega arith) (told-passed meta _ (meta-sections .ensures) (check-meta .ensures) (enum-told .given .1)) 6 (omega arith) (u32 8) (held (u16 12)) refl (omega arith) (of-specs .ensures)
 
 returns : tie.Need-returns
 unfolding sourceAt
 returns c =
-    let file = c .before .before .before .before .before .before .before .before .before .args .file .now in
-    rw (c .source-in .ensures, c .before .before .of-specs .ensures) (answers meta file (c .before .before .before .before .before .before .before .meta-sections .ensures) (c .before .before .before .before .before .before .check-meta .ensures) Refused (λ ps. sourceIn file ps (c .before .before .before .before .before .before .before .before .before .args .i)) (c .before .before .before .before .enum-told .given .1))
+    let args = c .before .before .before .before .before .before .before .before .before .args in
+    let of-specs = c .before .before .of-specs in
+    let meta-sections = c .before .before .before .before .before .before .before .meta-sections in
+    let check-meta = c .before .before .before .before .before .before .check-meta in
+    let enum-told = c .before .before .before .before .enum-told in
+    let file = args .file .now in
+    rw (c .source-in .ensures, of-specs .ensures) (answers meta file (meta-sections .ensures) (check-meta .ensures) Refused (λ ps. sourceIn file ps (args .i)) (enum-told .given .1))
 
 returns-2 : tie.Need-returns-2
 unfolding sourceAt
-returns-2 c = refuses meta _ (c .before .before .before .before .meta-sections .ensures) (c .before .before .before .check-meta .ensures) Refused _ _ (c .before .check .given .1)
+returns-2 c =
+    let meta-sections = c .before .before .before .before .meta-sections in
+    let check-meta = c .before .before .before .check-meta in
+    let check = c .before .check in
+    refuses meta _ (meta-sections .ensures) (check-meta .ensures) Refused _ _ (check .given .1)
 
 pub source-file-spec : {M : Type 1} → statement M
 source-file-spec =

@@ -6,7 +6,10 @@ use Rattle.meta.proofs.source_in.Tie as tie
 
 returns : tie.Need-returns
 unfolding onElement
-returns c = rw (c .source-of .ensures, ← c .before .before .before .before .nth .ensures, c .before .before .place .given .1)
+returns c =
+    let nth = c .before .before .before .before .nth in
+    let place = c .before .before .place in
+    rw (c .source-of .ensures, ← nth .ensures, place .given .1)
 
 returns-2 : tie.Need-returns-2
 unfolding onElement

@@ -8,7 +8,11 @@ use Rattle.meta.proofs.source_of.Tie as tie
 
 returns : tie.Need-returns
 unfolding sourceOf copied onText
-returns c = rw (← c .before .before .before .string-of .ensures, c .before .place .given .1, c .before .before .before .before .u32-at .ensures, add-zero)
+returns c =
+    let string-of = c .before .before .before .string-of in
+    let place = c .before .place in
+    let u32-at = c .before .before .before .before .u32-at in
+    rw (← string-of .ensures, place .given .1, u32-at .ensures, add-zero)
 
 returns-2 : tie.Need-returns-2
 unfolding sourceOf onText

@@ -4,7 +4,10 @@ use Rattle.meta.proofs.source_path.Statement.{statement}
 use Rattle.meta.proofs.source_path.Tie as tie
 
 returns : tie.Need-returns
-returns c = (rw (c .bytes .ensures .0, c .before .before .source-text .ensures, c .before .before .before .source-file .ensures), rw (c .bytes .ensures .1, c .before .before .source-text .ensures, c .before .before .before .source-file .ensures))
+returns c =
+    let source-text = c .before .before .source-text in
+    let source-file = c .before .before .before .source-file in
+    (rw (c .bytes .ensures .0, source-text .ensures, source-file .ensures), rw (c .bytes .ensures .1, source-text .ensures, source-file .ensures))
 
 pub source-path-spec : {M : Type 1} → statement M
 source-path-spec =

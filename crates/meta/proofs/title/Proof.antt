@@ -4,7 +4,9 @@ use Rattle.meta.proofs.title.Statement.{statement}
 use Rattle.meta.proofs.title.Tie as tie
 
 returns : tie.Need-returns
-returns c = (rw (c .bytes .ensures .0, c .before .before .title-at .ensures), rw (c .bytes .ensures .1, c .before .before .title-at .ensures))
+returns c =
+    let title-at = c .before .before .title-at in
+    (rw (c .bytes .ensures .0, title-at .ensures), rw (c .bytes .ensures .1, title-at .ensures))
 
 pub title-spec : {M : Type 1} → statement M
 title-spec = tie.close (tie.spec (λ c κs. search needs) (λ c κs. search needs) returns)

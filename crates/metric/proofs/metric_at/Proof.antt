@@ -10,18 +10,31 @@ use Rattle.metric.proofs.metric_at.Statement.{statement}
 use Rattle.metric.proofs.metric_at.Tie as tie
 
 metric-nested-requires : tie.Need-metric-nested-requires
-metric-nested-requires c κs = told-passed meta _ (c .before .before .before .before .meta-sections .ensures) (c .before .before .before .check-meta .ensures) (c .before .enum-told .given .1)
+metric-nested-requires c κs =
+    let meta-sections = c .before .before .before .before .meta-sections in
+    let check-meta = c .before .before .before .check-meta in
+    let enum-told = c .before .enum-told in
+    told-passed meta _ (meta-sections .ensures) (check-meta .ensures) (enum-told .given .1)
 
 returns : tie.Need-returns
 unfolding metricAt
 returns c =
-    let file = c .before .before .before .before .before .before .before .before .args .file .now in
-    rw (c .metric-of .ensures, c .before .metric-nested .ensures .0)
-    (answers meta file (c .before .before .before .before .before .before .meta-sections .ensures) (c .before .before .before .before .before .check-meta .ensures) metric.Refused (λ ps. metricOf file (getD ps 2 []) (metricNested file ps (c .before .before .before .before .before .before .before .before .args .m))) (c .before .before .before .enum-told .given .1))
+    let args = c .before .before .before .before .before .before .before .before .args in
+    let metric-nested = c .before .metric-nested in
+    let meta-sections = c .before .before .before .before .before .before .meta-sections in
+    let check-meta = c .before .before .before .before .before .check-meta in
+    let enum-told = c .before .before .before .enum-told in
+    let file = args .file .now in
+    rw (c .metric-of .ensures, metric-nested .ensures .0)
+    (answers meta file (meta-sections .ensures) (check-meta .ensures) metric.Refused (λ ps. metricOf file (getD ps 2 []) (metricNested file ps (args .m))) (enum-told .given .1))
 
 returns-2 : tie.Need-returns-2
 unfolding metricAt
-returns-2 c = refuses meta _ (c .before .before .before .before .meta-sections .ensures) (c .before .before .before .check-meta .ensures) metric.Refused _ _ (c .before .check .given .1)
+returns-2 c =
+    let meta-sections = c .before .before .before .before .meta-sections in
+    let check-meta = c .before .before .before .check-meta in
+    let check = c .before .check in
+    refuses meta _ (meta-sections .ensures) (check-meta .ensures) metric.Refused _ _ (check .given .1)
 
 pub metric-at-spec : {M : Type 1} → statement M
 metric-at-spec =

@@ -9,10 +9,19 @@ use Rattle.metric.proofs.metric_nested.Statement.{statement}
 use Rattle.metric.proofs.metric_nested.Tie as tie
 
 nested-at-requires : tie.Need-nested-at-requires
-nested-at-requires c κs = bounded meta (c .before .before .before .before .before .args .file .now) (omega arith) (c .before .before .before .before .before .pre) 2 (omega arith) (u32 8) (held (u8 12)) refl (omega arith) (c .before .before .of-infos .ensures)
+nested-at-requires c κs =
+    let args = c .before .before .before .before .before .args in
+    let pre = c .before .before .before .before .before .pre in
+    let of-infos = c .before .before .of-infos in
+    bounded meta (args .file .now) (omega arith) pre 2 (omega arith) (u32 8) (held (u8 12)) refl (omega arith) (of-infos .ensures)
 
 returns : tie.Need-returns
-returns c = (rw (c .nested-at .ensures, c .before .before .before .of-infos .ensures, c .before .before .u8-at .ensures), nested-bounded (c .before .before .before .before .before .before .args .file .now) (omega arith) (c .before .before .before .before .before .before .pre) _ _ _ (c .nested-at .ensures))
+returns c =
+    let of-infos = c .before .before .before .of-infos in
+    let u8-at = c .before .before .u8-at in
+    let args = c .before .before .before .before .before .before .args in
+    let pre = c .before .before .before .before .before .before .pre in
+    (rw (c .nested-at .ensures, of-infos .ensures, u8-at .ensures), nested-bounded (args .file .now) (omega arith) pre _ _ _ (c .nested-at .ensures))
 
 pub metric-nested-spec : {M : Type 1} → statement M
 metric-nested-spec =

@@ -7,7 +7,10 @@ use Rattle.metric.proofs.nested_at.Tie as tie
 
 returns : tie.Need-returns
 unfolding nestedAt onElement
-returns c = rw (c .nested-of .ensures, ← c .before .before .before .before .nth .ensures, c .before .before .place .given .1)
+returns c =
+    let nth = c .before .before .before .before .nth in
+    let place = c .before .before .place in
+    rw (c .nested-of .ensures, ← nth .ensures, place .given .1)
 
 returns-2 : tie.Need-returns-2
 unfolding nestedAt onElement

@@ -6,11 +6,19 @@ use Rattle.metric.proofs.nested_of.Tie as tie
 
 returns : tie.Need-returns
 unfolding nestedOf nestedIf
-returns c = rw (← c .before .before .before .u64-at .ensures, ← c .before .before .u16-at .ensures, ← c .before .array-rule .ensures, c .if1 .taken)
+returns c =
+    let u64-at = c .before .before .before .u64-at in
+    let u16-at = c .before .before .u16-at in
+    let array-rule = c .before .array-rule in
+    rw (← u64-at .ensures, ← u16-at .ensures, ← array-rule .ensures, c .if1 .taken)
 
 returns-2 : tie.Need-returns-2
 unfolding nestedOf nestedIf
-returns-2 c = rw (← c .before .before .before .u64-at .ensures, ← c .before .before .u16-at .ensures, ← c .before .array-rule .ensures, c .if1 .left)
+returns-2 c =
+    let u64-at = c .before .before .before .u64-at in
+    let u16-at = c .before .before .u16-at in
+    let array-rule = c .before .array-rule in
+    rw (← u64-at .ensures, ← u16-at .ensures, ← array-rule .ensures, c .if1 .left)
 
 pub nested-of-spec : {M : Type 1} → statement M
 nested-of-spec =

@@ -10,18 +10,31 @@ use Rattle.metric.proofs.scope_at.Statement.{statement}
 use Rattle.metric.proofs.scope_at.Tie as tie
 
 scope-nested-requires : tie.Need-scope-nested-requires
-scope-nested-requires c κs = told-passed meta _ (c .before .before .before .before .meta-sections .ensures) (c .before .before .before .check-meta .ensures) (c .before .enum-told .given .1)
+scope-nested-requires c κs =
+    let meta-sections = c .before .before .before .before .meta-sections in
+    let check-meta = c .before .before .before .check-meta in
+    let enum-told = c .before .enum-told in
+    told-passed meta _ (meta-sections .ensures) (check-meta .ensures) (enum-told .given .1)
 
 returns : tie.Need-returns
 unfolding scopeAt
 returns c =
-    let file = c .before .before .before .before .before .before .before .before .args .file .now in
-    rw (c .scope-of .ensures, c .before .scope-nested .ensures .0)
-    (answers meta file (c .before .before .before .before .before .before .meta-sections .ensures) (c .before .before .before .before .before .check-meta .ensures) scope.Refused (λ ps. scopeOf file (getD ps 2 []) (scopeNested file ps (c .before .before .before .before .before .before .before .before .args .m) (c .before .before .before .before .before .before .before .before .args .s))) (c .before .before .before .enum-told .given .1))
+    let args = c .before .before .before .before .before .before .before .before .args in
+    let scope-nested = c .before .scope-nested in
+    let meta-sections = c .before .before .before .before .before .before .meta-sections in
+    let check-meta = c .before .before .before .before .before .check-meta in
+    let enum-told = c .before .before .before .enum-told in
+    let file = args .file .now in
+    rw (c .scope-of .ensures, scope-nested .ensures .0)
+    (answers meta file (meta-sections .ensures) (check-meta .ensures) scope.Refused (λ ps. scopeOf file (getD ps 2 []) (scopeNested file ps (args .m) (args .s))) (enum-told .given .1))
 
 returns-2 : tie.Need-returns-2
 unfolding scopeAt
-returns-2 c = refuses meta _ (c .before .before .before .before .meta-sections .ensures) (c .before .before .before .check-meta .ensures) scope.Refused _ _ (c .before .check .given .1)
+returns-2 c =
+    let meta-sections = c .before .before .before .before .meta-sections in
+    let check-meta = c .before .before .before .check-meta in
+    let check = c .before .check in
+    refuses meta _ (meta-sections .ensures) (check-meta .ensures) scope.Refused _ _ (check .given .1)
 
 pub scope-at-spec : {M : Type 1} → statement M
 scope-at-spec =

@@ -7,7 +7,11 @@ use Rattle.metric.proofs.scope_found.Tie as tie
 
 returns : tie.Need-returns
 unfolding scopeFound onText
-returns c = rw (← c .before .before .before .string-of .ensures, c .before .place .given .1, c .before .before .before .before .u16-at .ensures)
+returns c =
+    let string-of = c .before .before .before .string-of in
+    let place = c .before .place in
+    let u16-at = c .before .before .before .before .u16-at in
+    rw (← string-of .ensures, place .given .1, u16-at .ensures)
 
 returns-2 : tie.Need-returns-2
 unfolding scopeFound onText

@@ -7,11 +7,20 @@ use Rattle.metric.proofs.scope_nested.Statement.{statement}
 use Rattle.metric.proofs.scope_nested.Tie as tie
 
 nested-at-requires : tie.Need-nested-at-requires
-nested-at-requires c κs = rw (c .before .before .before .before .metric .given .1) at (c .before .before .before .before .before .before .metric-nested .ensures .1)
+nested-at-requires c κs =
+    let metric = c .before .before .before .before .metric in
+    let metric-nested = c .before .before .before .before .before .before .metric-nested in
+    rw (metric .given .1) at (metric-nested .ensures .1)
 
 returns : tie.Need-returns
 unfolding onNested
-returns c = (rw (c .nested-at .ensures, c .before .before .u8-at .ensures, ← c .before .before .before .before .before .before .before .metric-nested .ensures .0, c .before .before .before .before .before .metric .given .1), nested-bounded (c .before .before .before .before .before .before .before .before .before .args .file .now) (omega arith) (c .before .before .before .before .before .before .before .before .before .pre) _ _ _ (c .nested-at .ensures))
+returns c =
+    let u8-at = c .before .before .u8-at in
+    let metric-nested = c .before .before .before .before .before .before .before .metric-nested in
+    let metric = c .before .before .before .before .before .metric in
+    let args = c .before .before .before .before .before .before .before .before .before .args in
+    let pre = c .before .before .before .before .before .before .before .before .before .pre in
+    (rw (c .nested-at .ensures, u8-at .ensures, ← metric-nested .ensures .0, metric .given .1), nested-bounded (args .file .now) (omega arith) pre _ _ _ (c .nested-at .ensures))
 
 returns-2 : tie.Need-returns-2
 unfolding onNested

@@ -10,7 +10,11 @@ use Rattle.metric.proofs.summary_at.Statement.{statement}
 use Rattle.metric.proofs.summary_at.Tie as tie
 
 scope-nested-requires : tie.Need-scope-nested-requires
-scope-nested-requires c κs = told-passed meta _ (c .before .before .before .before .meta-sections .ensures) (c .before .before .before .check-meta .ensures) (c .before .enum-told .given .1)
+scope-nested-requires c κs =
+    let meta-sections = c .before .before .before .before .meta-sections in
+    let check-meta = c .before .before .before .check-meta in
+    let enum-told = c .before .enum-told in
+    told-passed meta _ (meta-sections .ensures) (check-meta .ensures) (enum-told .given .1)
 
 summary-of-requires : tie.Need-summary-of-requires
 summary-of-requires c κs = c .scope-nested .ensures .1
@@ -18,13 +22,22 @@ summary-of-requires c κs = c .scope-nested .ensures .1
 returns : tie.Need-returns
 unfolding summaryAt
 returns c =
-    let file = c .before .before .before .before .before .before .before .before .args .file .now in
-    rw (c .summary-of .ensures, c .before .scope-nested .ensures .0)
-    (answers meta file (c .before .before .before .before .before .before .meta-sections .ensures) (c .before .before .before .before .before .check-meta .ensures) summary.Refused (λ ps. summaryOf file (getD ps 2 []) (scopeNested file ps (c .before .before .before .before .before .before .before .before .args .m) (c .before .before .before .before .before .before .before .before .args .s)) (c .before .before .before .before .before .before .before .before .args .k)) (c .before .before .before .enum-told .given .1))
+    let args = c .before .before .before .before .before .before .before .before .args in
+    let scope-nested = c .before .scope-nested in
+    let meta-sections = c .before .before .before .before .before .before .meta-sections in
+    let check-meta = c .before .before .before .before .before .check-meta in
+    let enum-told = c .before .before .before .enum-told in
+    let file = args .file .now in
+    rw (c .summary-of .ensures, scope-nested .ensures .0)
+    (answers meta file (meta-sections .ensures) (check-meta .ensures) summary.Refused (λ ps. summaryOf file (getD ps 2 []) (scopeNested file ps (args .m) (args .s)) (args .k)) (enum-told .given .1))
 
 returns-2 : tie.Need-returns-2
 unfolding summaryAt
-returns-2 c = refuses meta _ (c .before .before .before .before .meta-sections .ensures) (c .before .before .before .check-meta .ensures) summary.Refused _ _ (c .before .check .given .1)
+returns-2 c =
+    let meta-sections = c .before .before .before .before .meta-sections in
+    let check-meta = c .before .before .before .check-meta in
+    let check = c .before .check in
+    refuses meta _ (meta-sections .ensures) (check-meta .ensures) summary.Refused _ _ (check .given .1)
 
 pub summary-at-spec : {M : Type 1} → statement M
 summary-at-spec =

@@ -4,7 +4,10 @@ use Rattle.metric.proofs.summary_formula.Statement.{statement}
 use Rattle.metric.proofs.summary_formula.Tie as tie
 
 returns : tie.Need-returns
-returns c = (rw (c .bytes .ensures .0, c .before .before .summary-text .ensures, c .before .before .before .summary-at .ensures), rw (c .bytes .ensures .1, c .before .before .summary-text .ensures, c .before .before .before .summary-at .ensures))
+returns c =
+    let summary-text = c .before .before .summary-text in
+    let summary-at = c .before .before .before .summary-at in
+    (rw (c .bytes .ensures .0, summary-text .ensures, summary-at .ensures), rw (c .bytes .ensures .1, summary-text .ensures, summary-at .ensures))
 
 pub summary-formula-spec : {M : Type 1} → statement M
 summary-formula-spec =

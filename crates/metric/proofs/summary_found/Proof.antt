@@ -7,7 +7,12 @@ use Rattle.metric.proofs.summary_found.Tie as tie
 
 returns : tie.Need-returns
 unfolding summaryFound onText
-returns c = rw (← c .before .before .before .string-of .ensures, c .before .place .given .1, c .before .before .before .before .u16-at .ensures, c .before .before .before .before .before .u8-at .ensures)
+returns c =
+    let string-of = c .before .before .before .string-of in
+    let place = c .before .place in
+    let u16-at = c .before .before .before .before .u16-at in
+    let u8-at = c .before .before .before .before .before .u8-at in
+    rw (← string-of .ensures, place .given .1, u16-at .ensures, u8-at .ensures)
 
 returns-2 : tie.Need-returns-2
 unfolding summaryFound onText

@@ -8,15 +8,17 @@ use Rattle.open.proofs.check_profile.Tie as tie
 
 returns : tie.Need-returns
 unfolding openingWith inOrder sectionCheck headerCheck
-returns c = rw (
-  c .first3 .ensures,
-  c .before .first2 .ensures,
-  c .before .before .first .ensures,
-  c .before .before .before .infos-header .ensures,
-  c .before .before .before .before .before .section-check2 .ensures,
-  c .before .before .before .before .before .before .before .section-check .ensures,
-  c .before .before .before .before .before .before .before .before .before .front .ensures,
-)
+returns c =
+    let d = c .before .before .before .before .before .before .before .before in
+    rw (
+      c .first3 .ensures,
+      c .before .first2 .ensures,
+      c .before .before .first .ensures,
+      c .before .before .before .infos-header .ensures,
+      c .before .before .before .before .before .section-check2 .ensures,
+      c .before .before .before .before .before .before .before .section-check .ensures,
+      d .before .front .ensures,
+    )
     (simp (no-header, first-passed))
 
 pub check-profile-spec : {M : Type 1} → statement M

@@ -8,19 +8,21 @@ use Rattle.open.proofs.meta_header_checks.Tie as tie
 
 returns : tie.Need-returns
 unfolding inOrder headerCheck
-returns c = rw (
-  c .first5 .ensures,
-  c .before .first4 .ensures,
-  c .before .before .first3 .ensures,
-  c .before .before .before .first2 .ensures,
-  c .before .before .before .before .first .ensures,
-  c .before .before .before .before .before .specs-header3 .ensures,
-  c .before .before .before .before .before .before .before .specs-header2 .ensures,
-  c .before .before .before .before .before .before .before .before .before .specs-header .ensures,
-  c .before .before .before .before .before .before .before .before .before .before .before .contexts-header .ensures,
-  c .before .before .before .before .before .before .before .before .before .before .before .before .before .metrics-header .ensures,
-  c .before .before .before .before .before .before .before .before .before .before .before .before .before .before .before .names-header .ensures,
-)
+returns c =
+    let d = c .before .before .before .before .before .before .before .before in
+    rw (
+      c .first5 .ensures,
+      c .before .first4 .ensures,
+      c .before .before .first3 .ensures,
+      c .before .before .before .first2 .ensures,
+      c .before .before .before .before .first .ensures,
+      c .before .before .before .before .before .specs-header3 .ensures,
+      c .before .before .before .before .before .before .before .specs-header2 .ensures,
+      d .before .specs-header .ensures,
+      d .before .before .before .contexts-header .ensures,
+      d .before .before .before .before .before .metrics-header .ensures,
+      d .before .before .before .before .before .before .before .names-header .ensures,
+    )
     (simp (no-header, passed-first, first-passed))
 
 pub meta-header-checks-spec : {M : Type 1} → statement M

@@ -7,19 +7,21 @@ use Rattle.open.proofs.metrics_header.Tie as tie
 
 returns : tie.Need-returns
 unfolding headerRule strideRules contentRule field numberAt
-returns c = rw (
-  c .strides-then-array .ensures,
-  c .before .array-rule .ensures,
-  c .before .before .stride-rule3 .ensures,
-  c .before .before .before .stride-rule2 .ensures,
-  c .before .before .before .before .stride-rule .ensures,
-  c .before .before .before .before .before .u8-at3 .ensures,
-  c .before .before .before .before .before .before .u8-at2 .ensures,
-  c .before .before .before .before .before .before .before .u8-at .ensures,
-  c .before .before .before .before .before .before .before .before .u32-at .ensures,
-  c .before .before .before .before .before .before .before .before .before .u64-at .ensures,
-  and-true,
-)
+returns c =
+    let d = c .before .before .before .before .before .before .before .before in
+    rw (
+      c .strides-then-array .ensures,
+      c .before .array-rule .ensures,
+      c .before .before .stride-rule3 .ensures,
+      c .before .before .before .stride-rule2 .ensures,
+      c .before .before .before .before .stride-rule .ensures,
+      c .before .before .before .before .before .u8-at3 .ensures,
+      c .before .before .before .before .before .before .u8-at2 .ensures,
+      c .before .before .before .before .before .before .before .u8-at .ensures,
+      d .u32-at .ensures,
+      d .before .u64-at .ensures,
+      and-true,
+    )
 
 pub metrics-header-spec : {M : Type 1} → statement M
 metrics-header-spec =

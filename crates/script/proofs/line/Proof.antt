@@ -6,18 +6,27 @@ use Rattle.script.proofs.line.Statement.{statement}
 use Rattle.script.proofs.line.Tie as tie
 
 returns : tie.Need-returns
-returns c = (past-end (c .before .before .before .args .list .now) (c .before .before .before .args .at) (c .before .if1 .taken), omega arith)
+returns c =
+    let args = c .before .before .before .args in
+    let if1 = c .before .if1 in
+    (past-end (args .list .now) (args .at) (if1 .taken), omega arith)
 
 add-to : tie.Need-add-to
-add-to c = omega (arith, short (c .before .before .before .before .args .list .now) (c .before .before .before .before .args .at) (c .until .result) (c .until .ensures))
+add-to c =
+    let args = c .before .before .before .before .args in
+    omega (arith, short (args .list .now) (args .at) (c .until .result) (c .until .ensures))
 
 part-result-end : tie.Need-part-result-end
-part-result-end c = omega (arith, short (c .before .before .before .before .args .list .now) (c .before .before .before .before .args .at) (c .until .result) (c .until .ensures))
+part-result-end c =
+    let args = c .before .before .before .before .args in
+    omega (arith, short (args .list .now) (args .at) (c .until .result) (c .until .ensures))
 
 returns-2 : tie.Need-returns-2
 returns-2 c =
-    let a = c .before .before .before .before .before .args in
-    let u = c .before .until in
+    let args = c .before .before .before .before .before .args in
+    let until = c .before .until in
+    let a = args in
+    let u = until in
     (is-line (a .list .now) (a .at) (u .result) (u .ensures), line-short (a .list .now) (a .at) (u .result) (u .ensures))
 
 pub line-spec : {M : Type 1} → statement M

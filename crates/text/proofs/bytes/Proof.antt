@@ -10,7 +10,10 @@ returns c = (rw (c .before .before .text .given .1, c .part .ensures), rw (c .be
 
 returns-2 : tie.Need-returns-2
 unfolding textBytes textCode
-returns-2 c = (rw (c .before .before .before .text2 .given .1), rw (c .before .before .before .text2 .given .1, c .before .number .ensures))
+returns-2 c =
+    let text2 = c .before .before .before .text2 in
+    let number = c .before .number in
+    (rw (text2 .given .1), rw (text2 .given .1, number .ensures))
 
 pub bytes-spec : {M : Type 1} → statement M
 bytes-spec =

@@ -35,13 +35,18 @@ part-until-end c = omega (arith, there c)
 
 returns-2 : tie.Need-returns-2
 returns-2 c =
-    let a = c .before .before .before .before .before .before .args in
-    ends-inside (a .file .now) (a .section) (a .place) (c .before .until .result) (found (c .before)) (rw (c .before .before .before .before .count-from .ensures) at (c .if2 .taken))
+    let args = c .before .before .before .before .before .before .args in
+    let until = c .before .until in
+    let count-from = c .before .before .before .before .count-from in
+    let a = args in
+    ends-inside (a .file .now) (a .section) (a .place) (until .result) (found (c .before)) (rw (count-from .ensures) at (c .if2 .taken))
 
 returns-3 : tie.Need-returns-3
 returns-3 c =
-    let a = c .before .before .before .before .before .before .args in
-    no-nul (a .file .now) (a .section) (a .place) (omega (arith, found (c .before), c .before .before .before .before .count-from .ensures))
+    let args = c .before .before .before .before .before .before .args in
+    let count-from = c .before .before .before .before .count-from in
+    let a = args in
+    no-nul (a .file .now) (a .section) (a .place) (omega (arith, found (c .before), count-from .ensures))
 
 pub find-spec : {M : Type 1} → statement M
 find-spec =

@@ -19,13 +19,24 @@ loop-holds : tie.Need-loop-holds Inv-loop μ-loop
 loop-holds c = (search needs, omega arith)
 
 returns : tie.Need-returns Inv-loop μ-loop
-returns c = omega (arith, c .before .before .before .loop .inv .1, found-here (c .before .before .before .before .args .stop) (c .before .before .before .before .args .bytes .now) (c .before .before .before .loop .i) (c .before .before .loop-test .taken) (c .if1 .taken))
+returns c =
+    let loop = c .before .before .before .loop in
+    let args = c .before .before .before .before .args in
+    let loop-test = c .before .before .loop-test in
+    omega (arith, loop .inv .1, found-here (args .stop) (args .bytes .now) (loop .i) (loop-test .taken) (c .if1 .taken))
 
 loop-again : tie.Need-loop-again Inv-loop μ-loop
-loop-again c = (search needs, omega (arith, c .before .before .before .loop .inv .1, found-later (c .before .before .before .before .args .stop) (c .before .before .before .before .args .bytes .now) (c .before .before .before .loop .i) (c .before .before .loop-test .taken) (c .if1 .left)))
+loop-again c =
+    let loop = c .before .before .before .loop in
+    let args = c .before .before .before .before .args in
+    let loop-test = c .before .before .loop-test in
+    (search needs, omega (arith, loop .inv .1, found-later (args .stop) (args .bytes .now) (loop .i) (loop-test .taken) (c .if1 .left)))
 
 returns-2 : tie.Need-returns-2 Inv-loop μ-loop
-returns-2 c = omega (arith, c .before .loop .inv .1, found-nowhere (c .before .before .args .stop) (c .before .before .args .bytes .now) (c .before .loop .i) (c .loop-test .left))
+returns-2 c =
+    let loop = c .before .loop in
+    let args = c .before .before .args in
+    omega (arith, loop .inv .1, found-nowhere (args .stop) (args .bytes .now) (loop .i) (c .loop-test .left))
 
 pub until-spec : {M : Type 1} → statement M
 until-spec =
