@@ -41,7 +41,8 @@ module _ (a : Array) (i : ℕ) where
 
 -- the array of section k of an opened file
 module _ (f : Format) (file : List ℕ) (l : length file < 2 ^ 64) {ps : List (List ℕ)} (o : Sections f file ps) where
-  pub bounded : (k : ℕ) → k < length (f .sections) → (n : Field) (s : Number) → sectionAt f k .content ≡ array n s → 0 < sectionAt f k .end → {a : Array} → a ≡ arrayOf file (placeIn ps k) n s → Bounded a
+  pub bounded : (k : ℕ) → k < length (f .sections) → (n : Field) (s : Number) → sectionAt f k .content ≡ array n s → 0 < sectionAt f k .end
+      → {a : Array} → a ≡ arrayOf file (placeIn ps k) n s → Bounded a
   unfolding arrayOf
   bounded k h n s e z q =
       rw (q, o .same)

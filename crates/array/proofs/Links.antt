@@ -38,7 +38,9 @@ module _ (from stride place : ℕ) where
   below→ zero e = absurd (let z : _≡_ {A = ℕ} 0 1 = cc in omega arith)
   below→ (suc n) e = go (either (eqb place (from + n * stride)) (linkedBelow from stride n place) e) (below→ n)
     where
-      go : (eqb place (from + n * stride) ≡ true) ⊎ (linkedBelow from stride n place ≡ true) → (linkedBelow from stride n place ≡ true → (i : ℕ) × (i < n) × (place ≡ from + i * stride)) → (i : ℕ) × (i < suc n) × (place ≡ from + i * stride)
+      go : (eqb place (from + n * stride) ≡ true) ⊎ (linkedBelow from stride n place ≡ true)
+          → (linkedBelow from stride n place ≡ true → (i : ℕ) × (i < n) × (place ≡ from + i * stride))
+          → (i : ℕ) × (i < suc n) × (place ≡ from + i * stride)
       go (inl q) r = (n, omega arith, eqb-true place (from + n * stride) q)
       go (inr q) r = (r q .0, (let h : r q .0 < n = r q .1 in omega arith), r q .2)
 
@@ -47,7 +49,8 @@ module _ (from stride place : ℕ) where
   →below zero i h e = absurd (not-suc-le-zero h)
   →below (suc n) i h e = go (eq-or-lt-of-le (le-of-suc-le-suc h)) (→below n i)
     where
-      go : (i ≡ n) ⊎ (i < n) → (i < n → place ≡ from + i * stride → linkedBelow from stride n place ≡ true) → (eqb place (from + n * stride) || linkedBelow from stride n place) ≡ true
+      go : (i ≡ n) ⊎ (i < n) → (i < n → place ≡ from + i * stride → linkedBelow from stride n place ≡ true)
+          → (eqb place (from + n * stride) || linkedBelow from stride n place) ≡ true
       go (inl q) r = or-left (eqb place (from + n * stride)) (linkedBelow from stride n place) (eq-eqb place (from + n * stride) (rw q at e))
       go (inr q) r = or-right (eqb place (from + n * stride)) (linkedBelow from stride n place) (r q e)
 
@@ -77,7 +80,8 @@ module _ (a : Array) (place : ℕ) where
       let l : w .0 < a .count = w .1 in
       t .1 (eq-eqb (place - a .place) 0 (omega arith), lt-ltb 0 (a .count) (omega arith)))
 
-  pub by-stride : a .place ≤ place → 0 < a .stride → (eqb ((place - a .place) % a .stride) 0 && ltb ((place - a .place) / a .stride) (a .count)) ≡ linked a place
+  pub by-stride : a .place ≤ place → 0 < a .stride
+      → (eqb ((place - a .place) % a .stride) 0 && ltb ((place - a .place) / a .stride) (a .count)) ≡ linked a place
   by-stride h p =
       let d = place - a .place in
       let t = both (eqb (d % a .stride) 0) (ltb (d / a .stride) (a .count)) in

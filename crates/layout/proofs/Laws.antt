@@ -65,7 +65,8 @@ read {file} {at} w x h l =
     let e : take w (drop at file) ≡ bytes w x = rw length-bytes at (h .same) in
     rw e (value-bytes w x l)
 
-pub field-at : {file : List ℕ} {at : ℕ} → (fs : List Field) (i : ℕ) → Stands file at (fields fs) → i < length fs → fieldAt fs i .holds < 256 ^ fieldAt fs i .width → number (fieldAt fs i .width) file (at + offset fs i) ≡ fieldAt fs i .holds
+pub field-at : {file : List ℕ} {at : ℕ} → (fs : List Field) (i : ℕ) → Stands file at (fields fs) → i < length fs
+    → fieldAt fs i .holds < 256 ^ fieldAt fs i .width → number (fieldAt fs i .width) file (at + offset fs i) ≡ fieldAt fs i .holds
 unfolding fields
 field-at [] i h l m = absurd (not-suc-le-zero l)
 field-at {file} {at} (f ∷ fs) zero h l m = rw add-zero (read (f .width) (f .holds) (left file at (bytes (f .width) (f .holds)) (fields fs) h) m)
@@ -75,7 +76,8 @@ field-at {file} {at} (f ∷ fs) (suc i) h l m =
     let e : at + (f .width + offset fs i) ≡ at + f .width + offset fs i = omega arith in
     rw e r
 
-pub part-at : {file : List ℕ} {at : ℕ} → (ps : List (List ℕ)) (i : ℕ) → Stands file at (join ps) → i < length ps → Stands file (at + before ps i) (partAt ps i)
+pub part-at : {file : List ℕ} {at : ℕ} → (ps : List (List ℕ)) (i : ℕ) → Stands file at (join ps) → i < length ps
+    → Stands file (at + before ps i) (partAt ps i)
 unfolding join
 part-at [] i h l = absurd (not-suc-le-zero l)
 part-at {file} {at} (p ∷ ps) zero h l = rw add-zero (left file at p (join ps) h)

@@ -21,7 +21,8 @@ too-short (x ∷ xs) [] h = refl
 too-short (x ∷ xs) (y ∷ ys) h = rw (← too-short xs ys (le-of-suc-le-suc h), and-false)
 
 -- the bytes at i, and the rest
-pub next : (xs ys : List ℕ) (i : ℕ) → i < length xs → i < length ys → starts (drop i xs) (drop i ys) ≡ eqb (getD xs i 0) (getD ys i 0) && starts (drop (i + 1) xs) (drop (i + 1) ys)
+pub next : (xs ys : List ℕ) (i : ℕ) → i < length xs → i < length ys
+    → starts (drop i xs) (drop i ys) ≡ eqb (getD xs i 0) (getD ys i 0) && starts (drop (i + 1) xs) (drop (i + 1) ys)
 unfolding starts
 next xs ys i h k = rw (add-one, drop-cons xs i 0 h, drop-cons ys i 0 k)
 

@@ -56,5 +56,6 @@ module _ (file section : List ℕ) (l : getD section 0 0 + getD section 1 0 < 2 
       go (element.At p) = of-bounded p stride
       go (element.Refused r) = tt
 
-pub nested-bounded : (file : List ℕ) → length file < 2 ^ 64 → {ps : List (List ℕ)} → Sections meta file ps → (outer : Array) (i stride : ℕ) {n : Nested} → n ≡ nestedAt file (getD ps 2 []) outer i stride → BoundedIn n
+pub nested-bounded : (file : List ℕ) → length file < 2 ^ 64 → {ps : List (List ℕ)} → Sections meta file ps
+    → (outer : Array) (i stride : ℕ) {n : Nested} → n ≡ nestedAt file (getD ps 2 []) outer i stride → BoundedIn n
 nested-bounded file l {ps} o outer i stride e = rw e (at-bounded file (getD ps 2 []) (section-fits file l o) outer i stride)

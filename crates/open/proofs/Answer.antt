@@ -47,11 +47,13 @@ module _ (f : Format) (file : List ℕ) {ps : List (List ℕ)} {c : Check} (p : 
   pub told-passed : c ≡ Passed → Sections f file ps
   told-passed h = record { same = p; passed = sym told ∙ h }
 
-  pub answers : {A : Type 0} → (refused : Refusal → A) (answer : List (List ℕ) → A) → c ≡ Passed → answer ps ≡ ifPassed refused (opening f file) (answer (pairs f file))
+  pub answers : {A : Type 0} → (refused : Refusal → A) (answer : List (List ℕ) → A) → c ≡ Passed
+      → answer ps ≡ ifPassed refused (opening f file) (answer (pairs f file))
   unfolding ifPassed
   answers refused answer h = rw (← told, h) (ap answer p)
 
-  pub refuses : {A : Type 0} → (refused : Refusal → A) (answer : A) (r : Refusal) → c ≡ Refused r → refused r ≡ ifPassed refused (opening f file) answer
+  pub refuses : {A : Type 0} → (refused : Refusal → A) (answer : A) (r : Refusal) → c ≡ Refused r
+      → refused r ≡ ifPassed refused (opening f file) answer
   unfolding ifPassed
   refuses refused answer r h = rw (← told, h)
 

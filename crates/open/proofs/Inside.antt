@@ -27,21 +27,24 @@ module _ (f : Format) (file : List ℕ) (o : Opens f file) (k : ℕ) (l : k < le
   kept : (c : Content) → sectionAt f k .content ≡ c → ContentKept file at (sectionAt f k .end) size c
   kept c e = subst (λ (x : Content). ContentKept file at (sectionAt f k .end) size x) e (o .section k l .content)
 
-  pub array-kept : (n : Field) (s : Number) → sectionAt f k .content ≡ array n s → ArrayKept at (sectionAt f k .end) size (field file at (u64 0)) (field file at n) (numberAt file at s)
+  pub array-kept : (n : Field) (s : Number) → sectionAt f k .content ≡ array n s
+      → ArrayKept at (sectionAt f k .end) size (field file at (u64 0)) (field file at n) (numberAt file at s)
   array-kept n s e = kept (array n s) e
 
   pub roots-kept : sectionAt f k .content ≡ roots → ContextsKept at (sectionAt f k .end) size (field file at (u64 8)) (field file at (u64 0))
   roots-kept e = kept roots e
 
   -- an array with elements ends in the file, whatever the section
-  pub array-inside : (n : Field) (s : Number) → sectionAt f k .content ≡ array n s → 0 < sectionAt f k .end → 0 < field file at n → field file at (u64 0) + field file at n * numberAt file at s ≤ length file - 8
+  pub array-inside : (n : Field) (s : Number) → sectionAt f k .content ≡ array n s → 0 < sectionAt f k .end → 0 < field file at n
+      → field file at (u64 0) + field file at n * numberAt file at s ≤ length file - 8
   array-inside n s e h c =
       let a : field file at (u64 0) + field file at n * numberAt file at s ≤ at + size = array-kept n s e .inside c in
       let g : sectionAt f k .end ≤ size = o .section k l .section .large in
       let i : at + size ≤ length file - 8 = section-inside (omega arith) in
       omega arith
 
-  pub roots-inside : sectionAt f k .content ≡ roots → 0 < sectionAt f k .end → 0 < field file at (u64 0) → field file at (u64 8) + field file at (u64 0) ≤ length file - 8
+  pub roots-inside : sectionAt f k .content ≡ roots → 0 < sectionAt f k .end → 0 < field file at (u64 0)
+      → field file at (u64 8) + field file at (u64 0) ≤ length file - 8
   roots-inside e h b =
       let a : field file at (u64 8) + field file at (u64 0) ≤ at + size = roots-kept e .inside b in
       let g : sectionAt f k .end ≤ size = o .section k l .section .large in

@@ -27,7 +27,8 @@ use Rattle.open.specs.Kept.{SectionKept, StrideKept, ArrayKept, Contexts
 -- ---- tests and facts
 
 -- bytes that lie between two places, at a multiple; unless there are none
-lies-iff : (n from to place size step : ℕ) → ((eqb n 0 || (within from to place size && multiple place step)) ≡ true) ↔ (0 < n → (from ≤ place) × (place + size ≤ to) × (place % step ≡ 0))
+lies-iff : (n from to place size step : ℕ)
+    → ((eqb n 0 || (within from to place size && multiple place step)) ≡ true) ↔ (0 < n → (from ≤ place) × (place + size ≤ to) × (place % step ≡ 0))
 lies-iff n from to place size step =
     let w = within from to place size in
     let m = multiple place step in
@@ -46,7 +47,8 @@ lies-iff n from to place size step =
     positive zero h = absurd (h refl)
     positive (suc n) h = omega arith
 
-section-iff : (header last end align place size : ℕ) → (sectionRule header last end align place size ≡ true) ↔ SectionKept header last end align place size
+section-iff : (header last end align place size : ℕ)
+    → (sectionRule header last end align place size ≡ true) ↔ SectionKept header last end align place size
 unfolding sectionRule
 section-iff header last end align place size =
     let l = lies-iff size header last place size align in
@@ -122,7 +124,8 @@ content-iff file at end size roots = contexts-iff at end size (field file at (u6
 
 -- ---- checks in order, by position
 
-in-order-iff : (check : ℕ → Section → Check) (k : ℕ) (ss : List Section) → (inOrder check k ss ≡ Passed) ↔ ((j : ℕ) → j < length ss → check (k + j) (getD ss j strings) ≡ Passed)
+in-order-iff : (check : ℕ → Section → Check) (k : ℕ) (ss : List Section)
+    → (inOrder check k ss ≡ Passed) ↔ ((j : ℕ) → j < length ss → check (k + j) (getD ss j strings) ≡ Passed)
 unfolding inOrder
 in-order-iff check k [] = (λ e j h. absurd (not-suc-le-zero h), λ f. refl)
 in-order-iff check k (s ∷ rest) =
@@ -135,11 +138,13 @@ in-order-iff check k (s ∷ rest) =
     next : (j : ℕ) → k + 1 + j ≡ k + suc j
     next j = omega arith
 
-    at-each : check k s ≡ Passed → ((j : ℕ) → j < length rest → check (k + 1 + j) (getD rest j strings) ≡ Passed) → (j : ℕ) → j < length (s ∷ rest) → check (k + j) (getD (s ∷ rest) j strings) ≡ Passed
+    at-each : check k s ≡ Passed → ((j : ℕ) → j < length rest → check (k + 1 + j) (getD rest j strings) ≡ Passed) → (j : ℕ)
+        → j < length (s ∷ rest) → check (k + j) (getD (s ∷ rest) j strings) ≡ Passed
     at-each here later zero h = rw (add-zero k) here
     at-each here later (suc j) h = rw (← next j) (later j (le-of-suc-le-suc h))
 
-all-iff : (check : ℕ → Section → Check) (ss : List Section) → (inOrder check 0 ss ≡ Passed) ↔ ((j : ℕ) → j < length ss → check j (getD ss j strings) ≡ Passed)
+all-iff : (check : ℕ → Section → Check) (ss : List Section)
+    → (inOrder check 0 ss ≡ Passed) ↔ ((j : ℕ) → j < length ss → check j (getD ss j strings) ≡ Passed)
 all-iff check ss =
     let i = in-order-iff check 0 ss in
     (λ e j h. rw (zero-add j) at (i .0 e j h), λ f. i .1 (λ j h. rw (zero-add j) (f j h)))
@@ -199,7 +204,8 @@ module _ (f : Format) (file : List ℕ) where
         ),
       )
 
-  sections-iff : (ps : List (List ℕ)) → (first (inOrder (sectionCheck (f .header) file ps) 0 (f .sections)) (inOrder (headerCheck file ps) 0 (f .sections)) ≡ Passed) ↔ ((j : ℕ) → j < length (f .sections) → AllKept (f .header) file (sectionAt f j) (placeIn ps j) (sizeIn ps j))
+  sections-iff : (ps : List (List ℕ))
+      → (first (inOrder (sectionCheck (f .header) file ps) 0 (f .sections)) (inOrder (headerCheck file ps) 0 (f .sections)) ≡ Passed) ↔ ((j : ℕ) → j < length (f .sections) → AllKept (f .header) file (sectionAt f j) (placeIn ps j) (sizeIn ps j))
   sections-iff ps =
       let b = first-passes (inOrder (sectionCheck (f .header) file ps) 0 (f .sections)) (inOrder (headerCheck file ps) 0 (f .sections)) in
       let s = all-iff (sectionCheck (f .header) file ps) (f .sections) in

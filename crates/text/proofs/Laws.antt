@@ -73,10 +73,12 @@ module _ (file section : List ℕ) (place : ℕ) where
   unfolding bytesFrom bytesIf
   from-place h = rw (le-leb (getD section 0 0) place h)
 
-  pub count : getD section 0 0 ≤ place → length (bytesFrom file section place) ≡ min (getD section 0 0 + getD section 1 0 - place) (length file - place)
+  pub count : getD section 0 0 ≤ place
+      → length (bytesFrom file section place) ≡ min (getD section 0 0 + getD section 1 0 - place) (length file - place)
   count h = rw (from-place h, length-take, length-drop)
 
-  pub all-taken : (n : ℕ) → n ≡ length (bytesFrom file section place) → 0 < n → take (place + n - place) (drop place file) ≡ bytesFrom file section place
+  pub all-taken : (n : ℕ) → n ≡ length (bytesFrom file section place) → 0 < n
+      → take (place + n - place) (drop place file) ≡ bytesFrom file section place
   all-taken n e h =
       part-some file place n ∙ elim (decLe (getD section 0 0) place) [
         | yes l ↦ take-count (drop place file) (getD section 0 0 + getD section 1 0 - place) n (e ∙ count l ∙ ap (min (getD section 0 0 + getD section 1 0 - place)) (sym (length-drop place file))) ∙ sym (from-place l)
@@ -98,6 +100,7 @@ module _ (file section : List ℕ) (place : ℕ) where
   pub none-left : length (bytesFrom file section place) ≡ 0 → Refused No.String ≡ stringAt file section place
   none-left e = no-nul (omega arith)
 
-  pub ends-inside : (n : ℕ) → n ≡ untilNul (bytesFrom file section place) → n < length (bytesFrom file section place) → At place n ≡ stringAt file section place
+  pub ends-inside : (n : ℕ) → n ≡ untilNul (bytesFrom file section place) → n < length (bytesFrom file section place)
+      → At place n ≡ stringAt file section place
   unfolding stringAt textOf textIf
   ends-inside n e h = rw (← e, lt-ltb n (length (bytesFrom file section place)) h)
