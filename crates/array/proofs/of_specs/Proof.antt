@@ -7,7 +7,7 @@ use Rattle.array.proofs.of_specs.Tie as tie
 
 returns : tie.Need-returns
 unfolding arrayOf field numberAt
-returns c = rw (c .u16-at .ensures, c .before .u32-at .ensures, c .before .before .u64-at .ensures)
+returns c = rw (← c .u16-at .ensures, ← c .before .u32-at .ensures, ← c .before .before .u64-at .ensures)
 
 pub of-specs-spec : {M : Type 1} → statement M
 of-specs-spec =
