@@ -74,14 +74,18 @@ SECTIONS = {
 }
 
 
+def in_tree(section, place, size):
+    """The range rule of roots and children."""
+    if place == 0 or size == 0:
+        return place == size
+    return place % 8 == 0 and section[0] + 16 <= place and place + size <= section[0] + section[1]
+
+
 def content_kept(file, place, size, least, content):
     if content is None:
         return True
     if content[0] == "roots":
-        n, p = number(file, place, 8), number(file, place + 8, 8)
-        if p == 0 or n == 0:
-            return p == n
-        return p % 8 == 0 and place + least <= p and p + n <= place + size
+        return in_tree((place, size), number(file, place + 8, 8), number(file, place, 8))
     p, n = number(file, place, 8), number(file, place + content[1][0], content[1][1])
     stride = content[2] if isinstance(content[2], int) else number(file, place + content[2][0], content[2][1])
     return n == 0 or (p % 8 == 0 and place + least <= p and p + n * stride <= place + size)
@@ -229,3 +233,58 @@ def scope(file, m, s):
 def summary(file, m, s, k):
     at = nth(scope_place(file, m, s)[1], k)
     return number(file, at + 8, 1), number(file, at + 10, 2), string(file, sections_of(file)[2], number(file, at, 8))
+
+
+# ---- the context tree. Function, file, line, module, offset: the bit of flags that says they are there, and the bytes read of their word
+FLEX = ((1, 8), (2, 8), (2, 4), (4, 8), (4, 8))
+
+
+def trail(file, slots):
+    """The record of each context of the trail, in order; ends, or raises Refused."""
+    section = sections_of(file)[3]
+    modules, sources, functions = (stored(file, k) for k in (5, 6, 7))
+    taken = set()
+
+    def contexts(at, size, depth):
+        end = at + size
+        while at < end:
+            if at + 24 > end:
+                raise Refused(10)
+            below, children, ctx, flags, relation, lexical, words = struct.unpack_from("<QQIBBBB", file, at)
+            after = at + 24 + 8 * words
+            used, flex = 0, []
+            for bit, width in FLEX:
+                flex.append(number(file, at + 24 + 8 * used, width) if flags & bit else 0)
+                used += 1 if flags & bit else 0
+            if after > end or words < used:
+                raise Refused(10)
+            for bit, link, a in ((1, flex[0], functions), (2, flex[1], sources), (4, flex[3], modules)):
+                if flags & bit and (link == 0 or not is_link(a, link)):
+                    raise Refused(9)
+            if not in_tree(section, children, below):
+                raise Refused(7)
+            if depth > 200:
+                raise Refused(12)
+            if ctx >= slots:
+                raise Refused(13)
+            if ctx in taken:
+                raise Refused(14)
+            taken.add(ctx)
+            yield [at, depth, ctx, relation, lexical, flags % 8] + flex
+            yield from contexts(children, below, depth + 1)
+            at = after
+    yield from contexts(number(file, section[0] + 8, 8), number(file, section[0], 8), 1)
+
+
+def walk(file, room, slots):
+    """(end, listed): ("whole",), ("cut",) or ("refused", number), and the records listed: place, depth, ctxId, relation, lexicalType,
+    flags mod 8, function, file, line, module, offset."""
+    listed = []
+    try:
+        for record in trail(file, slots):
+            if len(listed) == room:
+                return ("cut",), listed
+            listed.append(record)
+    except Refused as r:
+        return ("refused", r.args[0]), listed
+    return ("whole",), listed

@@ -1,2 +1,3 @@
 pub mod W
+pub mod Flex
 pub mod Opening

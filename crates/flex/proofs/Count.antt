@@ -1,10 +1,11 @@
 -- A bit counts as its own number, so that the fields before one are a sum of bits.
 use Prim.Native.Nat.{ℕ, zero, suc, _+_, _*_, _/_, _%_, _^_, _≤_, _<_}
+use mathlib.Core.Bool.{Bool, true, false, true≢false}
 use mathlib.Core.List.{List, [], _∷_}
-use mathlib.Core.Path.{_≡_, refl, ap, _∙_}
+use mathlib.Core.Path.{_≡_, refl, sym, ap, _∙_}
 use native.Mathlib.Omega.{arith}
 use lib.Dec.{eqb}
-use lib.ListN.{length, take}
+use lib.ListN.{length, take, getD}
 use lib.Seq.{take-all}
 use Rattle.flex.specs.Packing.{packing, bit, oneMore, present, before, words}
 
@@ -59,3 +60,32 @@ module _ (flags : ℕ) where
   pub before-all : (j : ℕ) → 5 ≤ j → before flags j ≡ words flags
   unfolding before words
   before-all j h = ap (present flags) (take-all j packing h)
+
+-- a present field stands inside the words that all present fields take
+one-more-le : (b : Bool) (n : ℕ) → n ≤ oneMore b n
+unfolding oneMore
+one-more-le true n = omega arith
+one-more-le false n = omega arith
+
+one-more-mono : (b : Bool) (m n : ℕ) → m < n → oneMore b m < oneMore b n
+unfolding oneMore
+one-more-mono true m n h = omega arith
+one-more-mono false m n h = h
+
+one-more-true : (b : Bool) (n : ℕ) → b ≡ true → n < oneMore b n
+unfolding oneMore
+one-more-true true n h = omega arith
+one-more-true false n h = absurd (true≢false (sym h))
+
+stands-inside : (flags j : ℕ) (l : List ℕ) → j < length l → bit flags (getD l j 0) ≡ true → present flags (take j l) < present flags l
+unfolding present
+stands-inside flags j [] h k = absurd (omega arith)
+stands-inside flags zero (b ∷ l) h k = omega (arith, one-more-true (bit flags b) (present flags l) k)
+stands-inside flags (suc j) (b ∷ l) h k = one-more-mono (bit flags b) _ _ (stands-inside flags j l (omega arith) k)
+
+pub inside : (flags j : ℕ) → j < 5 → bit flags (getD packing j 0) ≡ true → before flags j < words flags
+unfolding before words
+inside flags j h k = stands-inside flags j packing h k
+
+pub words-few : (flags : ℕ) → words flags ≤ 5
+words-few flags = omega (arith, all flags)

@@ -11,6 +11,13 @@ fn wide(x: u8) -> u16
 }
 
 // Numbers that stand inside the file: each compiles to one load.
+pub fn load_u8(file: &[u8], at: usize) -> u8
+    requires { ⌜ at + 1 ≤ length (now file) ⌝ }
+    ensures { λ r. ⌜ r ≡ number 1 (now (file .entry)) at ⌝ }
+{
+    file[at]
+}
+
 pub fn load_u16(file: &[u8], at: usize) -> u16
     requires { ⌜ at + 2 ≤ length (now file) ⌝ }
     ensures { λ r. ⌜ r ≡ number 2 (now (file .entry)) at ⌝ }

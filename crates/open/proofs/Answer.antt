@@ -40,7 +40,7 @@ no-header file ps k end align = refl
 
 -- what an entry point answers, from the pairs of the header and the check over them
 module _ (f : Format) (file : List ℕ) {ps : List (List ℕ)} {c : Check} (p : ps ≡ pairs f file) (q : c ≡ openingWith f file ps) where
-  told : c ≡ opening f file
+  pub told : c ≡ opening f file
   unfolding opening
   told = q ∙ ap (openingWith f file) p
 

@@ -1,8 +1,9 @@
--- The bytes of a text from a place to just before the first newline, or to the end.
+-- Parts of a text.
 use Prim.Native.Nat.{ℕ}
 use mathlib.Core.List.{List}
 use lib.ListN.{take, drop}
 use Rattle.text.specs.String.{until}
 
-unfoldable pub lineAt : List ℕ → (at : ℕ) → List ℕ
-lineAt list at = take (until 10 (drop at list)) (drop at list)
+-- the bytes from a place to just before the first that is `stop`, or to the end
+unfoldable pub partAt : (stop : ℕ) → List ℕ → (at : ℕ) → List ℕ
+partAt stop list at = take (until stop (drop at list)) (drop at list)

@@ -1,18 +1,34 @@
-// Lines of a text: what the programs that run cases read their lists with.
+// Parts of a text: what the programs that run cases read their lists with.
 ghost use mathlib.Core.Path.{_≡_};
 ghost use Prim.Native.Nat.{_-_, _≤_};
 ghost use lib.ListN.{length};
-ghost use Rattle.script.specs.Line.{lineAt};
+ghost use Rattle.script.specs.Line.{partAt};
 
-// The line of a text from a place on, without its newline.
-pub fn line(list: &[u8], at: usize) -> &[u8]
-    ensures { λ r. ⌜ now r ≡ lineAt (now (list .entry)) at ⌝ }
+// The part of a text from a place to just before the next stop byte.
+fn part(stop: u8, list: &[u8], at: usize) -> &[u8]
+    ensures { λ r. ⌜ now r ≡ partAt stop (now (list .entry)) at ⌝ }
     ensures { λ r. ⌜ length (now r) ≤ length (now (list .entry)) - at ⌝ }
 {
     if list.len() <= at {
         return &list[..0];
     }
-    let n = text::until(b'\n', &list[at..]);
+    let n = text::until(stop, &list[at..]);
     let to = at + n;
     &list[at..to]
+}
+
+// The line from a place on, without its newline.
+pub fn line(list: &[u8], at: usize) -> &[u8]
+    ensures { λ r. ⌜ now r ≡ partAt 10 (now (list .entry)) at ⌝ }
+    ensures { λ r. ⌜ length (now r) ≤ length (now (list .entry)) - at ⌝ }
+{
+    part(b'\n', list, at)
+}
+
+// The word from a place on, without the space after it.
+pub fn word(list: &[u8], at: usize) -> &[u8]
+    ensures { λ r. ⌜ now r ≡ partAt 32 (now (list .entry)) at ⌝ }
+    ensures { λ r. ⌜ length (now r) ≤ length (now (list .entry)) - at ⌝ }
+{
+    part(b' ', list, at)
 }

@@ -1,0 +1,46 @@
+-- The cases that document 01 marks P, in one list, computed through the definitions that the promises cite.
+use Prim.Native.Nat.{ℕ}
+use mathlib.Core.List.{List, [], _∷_}
+use mathlib.Core.Path.{_≡_, refl}
+use Rattle.le.specs.Number.{number}
+use Rattle.layout.specs.Bytes.{bytes, fields, join}
+use Rattle.layout.specs.Stands.{starts, stands}
+use Rattle.refusal.specs.Check.{rule, first, ifPassed}
+use Rattle.open.specs.Opening.{placeFor, pairAt, pairsFrom, pairs, sectionRule, strideRule, arrayRule, contextsRule, field, numberAt, strideRules, contentRule, headerRule, frontRules, inOrder, sectionCheck, headerCheck, openingWith, opening}
+use Rattle.array.specs.Element.{linkedBelow, linked}
+use Rattle.array.specs.Stored.{arrayOf}
+use Rattle.flex.specs.Packing.{bit, oneMore, present, before, words}
+use Rattle.context.specs.Context.{extent, ifPresent, flexAt, contextRule, linkRule, linksRule, childrenRule, pointerCheck, contextCheck, targetsOf}
+use Rattle.context.specs.Entry.{entryAt}
+use Rattle.traversal.specs.Traversal.{seen, slotCheck, visitCheck, enter, visit, bind, turn, siblings, level, fromRoots, traversal}
+use Rattle.traversal.specs.Walk.{ifShort, truncate, walkOf, walkedOf, walkedWords}
+use Rattle.cases.specs.W.{parts, w, built, magic, common}
+use Rattle.cases.specs.Flex.{flexParts, flexFile, aModule, aFile, aFunction}
+
+-- a walk's answer in words: 0 whole, 101 cut, or the refusal's number; then the number listed
+abbrev walked : (file : List ℕ) (listing table : ℕ) → List ℕ
+walked file listing table = walkedWords (walkedOf (walkOf file listing table))
+
+pub cases : _≡_ {A = List (List ℕ)}
+    (walked w 4 5
+    ∷ walked w 3 5
+    ∷ walked w 0 5
+    ∷ walked w 3 4
+    ∷ walked w 2 4
+    -- C's id 1
+    ∷ walked (built (parts 1)) 4 5
+    -- flags 3 with 2 words; flags 6 with 4
+    ∷ walked (flexFile 3 (aFunction ∷ aFile ∷ [])) 4 5
+    ∷ walked (flexFile 6 (aFile ∷ 7 ∷ aModule ∷ 5 ∷ [])) 4 5
+    ∷ [])
+    ((0 ∷ 4 ∷ [])
+    ∷ (101 ∷ 3 ∷ [])
+    ∷ (101 ∷ 0 ∷ [])
+    ∷ (13 ∷ 3 ∷ [])
+    ∷ (101 ∷ 2 ∷ [])
+    ∷ (14 ∷ 1 ∷ [])
+    ∷ (10 ∷ 0 ∷ [])
+    ∷ (0 ∷ 1 ∷ [])
+    ∷ [])
+unfolding parts w built join fields bytes magic common flexParts flexFile number starts stands rule first ifPassed placeFor pairAt pairsFrom pairs sectionRule strideRule arrayRule contextsRule field numberAt strideRules contentRule headerRule frontRules inOrder sectionCheck headerCheck openingWith opening linkedBelow linked arrayOf bit oneMore present before words extent ifPresent flexAt contextRule linkRule linksRule childrenRule pointerCheck contextCheck targetsOf entryAt seen slotCheck visitCheck enter visit bind turn siblings level fromRoots traversal ifShort truncate walkOf walkedOf walkedWords
+cases = refl

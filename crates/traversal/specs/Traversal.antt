@@ -1,0 +1,119 @@
+-- The traversal of a file's contexts in preorder: document 01's trail.
+use Prim.Native.Nat.{ℕ, zero, suc, _+_, _-_}
+use mathlib.Core.Bool.{Bool, true, false, _||_, not}
+use mathlib.Core.List.{List, [], _∷_, _++_}
+use lib.Dec.{ltb, leb, eqb}
+use lib.ListN.{length}
+use Rattle.refusal.specs.declared.Refusal.{Refusal}
+use Rattle.refusal.specs.declared.Refusal.the-variants as No
+use Rattle.refusal.specs.declared.Check.{Check}
+use Rattle.refusal.specs.declared.Check.the-variants.{Passed, Refused}
+use Rattle.refusal.specs.Check.{rule, first, ifPassed}
+use Rattle.open.specs.Format.{meta, u64}
+use Rattle.open.specs.Opening.{field, opening, pairs}
+use Rattle.context.specs.Context.{Targets, childrenPlace, childrenBytes, ctxId, extent, contextCheck, targetsOf}
+use Rattle.context.specs.Entry.{Entry, entryAt}
+
+-- what a traversal comes to, with the contexts visited: it goes on, there is no room for one more, or it is refused
+pub data Outcome : Type 0 where
+  on : List Entry → Outcome
+  cut : List Entry → Outcome
+  refused : Refusal → List Entry → Outcome
+
+abbrev pub listOf : Outcome → List Entry
+listOf (on l) = l
+listOf (cut l) = l
+listOf (refused r l) = l
+
+-- what it is over: the file, what pointers may lead to, the table's length, the greatest depth, and whether after some contexts
+-- there is room for one more
+pub record Parameters : Type 0 where
+  pub file : List ℕ
+  pub targets : Targets
+  pub slots : ℕ
+  pub limit : ℕ
+  pub free : List Entry → Bool
+
+-- ---- one context
+
+-- a context with this ctxId is among some
+unfoldable pub seen : (id : ℕ) → List Entry → Bool
+seen id [] = false
+seen id (e ∷ es) = eqb id (e .ctxId) || seen id es
+
+-- 12, 13, 14
+unfoldable pub slotCheck : (depth limit id slots : ℕ) (twice : Bool) → Check
+slotCheck depth limit id slots twice =
+    first (rule (leb depth limit) No.Deep) (first (rule (ltb id slots) No.Slot) (rule (not twice) No.Twice))
+
+-- the rules of a visit, in order: 10, 9, 7, 12, 13, 14
+unfoldable pub visitCheck : Parameters → (path : List ℕ) (p stop : ℕ) → List Entry → Check
+visitCheck E path p stop l =
+    first (contextCheck (E .targets) (E .file) p stop)
+    (slotCheck (length path) (E .limit) (field (E .file) p ctxId) (E .slots) (seen (field (E .file) p ctxId) l))
+
+-- a visit by its check, and by whether there is room: with the context listed, into its children
+unfoldable pub enter : Check → (room : Bool) → (into : List Entry → Outcome) → List Entry → Entry → Outcome
+enter Passed true into l e = into (l ++ (e ∷ []))
+enter Passed false into l e = cut l
+enter (Refused r) room into l e = refused r l
+
+-- ---- contexts and arrays of contexts
+
+-- how an array of children is traversed: the place and path of their parent, from where to where, and the contexts before
+abbrev pub Down : Type 0
+Down = (parent : ℕ) (path : List ℕ) (from stop : ℕ) → List Entry → Outcome
+
+-- a context leads into its array of children
+unfoldable pub visit : Parameters → Down → (parent : ℕ) (path : List ℕ) (p stop : ℕ) → List Entry → Outcome
+visit E down parent path p stop l =
+    enter (visitCheck E path p stop l) (E .free l)
+    (down p path (field (E .file) p childrenPlace) (field (E .file) p childrenPlace + field (E .file) p childrenBytes))
+    l (entryAt (E .file) parent path p)
+
+-- what follows, unless it ended
+unfoldable pub bind : Outcome → (List Entry → Outcome) → Outcome
+bind (on l) next = next l
+bind (cut l) next = cut l
+bind (refused r l) next = refused r l
+
+unfoldable pub turn : (more : Bool) → (here next : List Entry → Outcome) → List Entry → Outcome
+turn true here next l = bind (here l) next
+turn false here next l = on l
+
+-- an array into its contexts: those from p to `stop`, of which the first has number i among its siblings. The first number
+-- bounds how many they are: each takes a byte at least
+unfoldable pub siblings : Parameters → Down → (parent : ℕ) (ups : List ℕ) → (bound i p stop : ℕ) → List Entry → Outcome
+siblings E down parent ups zero i p stop l = on l
+siblings E down parent ups (suc bound) i p stop l =
+    turn (ltb p stop) (visit E down parent (ups ++ (i ∷ [])) p stop)
+    (λ m. siblings E down parent ups bound (suc i) (p + extent (E .file) p) stop m) l
+
+-- an array of contexts, below which there are `left` levels: at the last one every context is too deep
+unfoldable pub level : Parameters → (left : ℕ) → Down
+level E zero parent ups from stop l = siblings E (λ a path f s m. on m) parent ups (stop - from) 0 from stop l
+level E (suc left) parent ups from stop l = siblings E (level E left) parent ups (stop - from) 0 from stop l
+
+-- ---- a file's
+
+abbrev pub depthLimit : ℕ
+depthLimit = 200
+
+abbrev pub parameters : List ℕ → (slots : ℕ) → (List Entry → Bool) → Parameters
+parameters file slots free = record {
+  file = file;
+  targets = targetsOf file (pairs meta file);
+  slots = slots;
+  limit = depthLimit;
+  free = free;
+}
+
+-- from the roots, whose size and place stand in the header of the Context section
+unfoldable pub fromRoots : Parameters → Outcome
+fromRoots E =
+    level E (E .limit) 0 [] (field (E .file) (E .targets .at) (u64 8))
+    (field (E .file) (E .targets .at) (u64 8) + field (E .file) (E .targets .at) (u64 0)) []
+
+-- for a table of `slots`, to its end
+unfoldable pub traversal : List ℕ → (slots : ℕ) → Outcome
+traversal file slots = ifPassed (λ r. refused r []) (opening meta file) (fromRoots (parameters file slots (λ l. true)))

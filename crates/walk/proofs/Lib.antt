@@ -1,0 +1,6 @@
+pub mod Slices
+pub mod Steps
+pub mod Going
+pub mod Visits
+pub mod Measure
+pub mod Roots

@@ -1,0 +1,35 @@
+-- Parts of the slices are as long as they are asked for.
+use native.Mathlib.Omega.{arith}
+use lib.Seq.{length-take-le}
+use mathlib.Core.Path.{sym}
+use denote.Ref.{now}
+use borrow.Author.Needs.{needs}
+use Rattle.walk_cases.proofs.with_room.Statement.{statement}
+use Rattle.walk_cases.proofs.with_room.Tie as tie
+
+slice-aggregate-walked : tie.Need-slice-aggregate-walked
+slice-aggregate-walked c =
+    let args = c .before .before .before .before .before .before .args in
+    let if1 = c .before .before .if1 in
+    sym (length-take-le (args .room) (now (args .listing)) (omega (arith, if1 .left)))
+
+slice-aggregate-walked-2 : tie.Need-slice-aggregate-walked-2
+slice-aggregate-walked-2 c =
+    let args = c .before .before .before .before .before .before .before .args in
+    let if2 = c .before .before .if2 in
+    sym (length-take-le (args .size) (now (args .table)) (omega (arith, if2 .left)))
+
+pub with-room-spec : {M : Type 1} → statement M
+with-room-spec =
+    tie.close
+    (tie.spec
+    (λ c. search needs)
+    (λ c. search needs)
+    (λ c. search needs)
+    slice-aggregate-walked
+    (λ c. search needs)
+    slice-aggregate-walked-2
+    (λ c κs. search needs)
+    (λ c. search needs)
+    (λ c. search needs)
+    (λ c. search needs))
