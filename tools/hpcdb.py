@@ -288,3 +288,96 @@ def walk(file, room, slots):
     except Refused as r:
         return ("refused", r.args[0]), listed
     return ("whole",), listed
+
+
+# ---- sparse blocks. Of each file: the bytes of an index's id, as of the count of indices; the bytes of a value's id; the least value's id
+BLOCKS = {"profile": (4, 2, 0), "cct": (2, 4, 1)}
+
+
+def double(bits):
+    return struct.unpack("<d", u(8, bits))[0]
+
+
+def bits_of(x):
+    return number(struct.pack("<d", x), 0, 8)
+
+
+def in_common(a, b):
+    """Whether two ranges, each a place and a size, share a byte."""
+    return max(a[0], b[0]) < min(a[0] + a[1], b[0] + b[1])
+
+
+def rising(numbers):
+    return all(a < b for a, b in zip(numbers, numbers[1:]))
+
+
+def block(kind, file, i):
+    """The sub-arrays of block i by their index's id, each a list of (id, bits)."""
+    refusal, sections = opening(kind, file)
+    if refusal:
+        raise Refused(refusal)
+    info = sections[0][0]
+    at = nth((number(file, info, 8), number(file, info + 8, 4), number(file, info + 12, 1)), i)
+    outer, inner, least = BLOCKS[kind]
+    amount, count = number(file, at, 8), number(file, at + 16, outer)
+    values, indices = (number(file, at + 8, 8), amount * (inner + 8)), (number(file, at + 24, 8), count * (outer + 8))
+    if count == 0 and amount == 0:
+        return {}
+    if count == 0 or amount == 0 or values[0] % 2 or indices[0] % 4 or values[0] + values[1] > indices[0]:
+        raise Refused(7)
+    for part in values, indices:
+        if part[0] < HEADER[kind] or part[0] + part[1] > len(file) - 8 or any(in_common(part, s) for s in sections):
+            raise Refused(7)
+    ids, starts = [], []
+    for at in range(indices[0], sum(indices), outer + 8):
+        ids.append(number(file, at, outer))
+        starts.append(number(file, at + outer, 8))
+    if starts[0] or not rising(starts + [amount]) or not rising(ids):
+        raise Refused(11)
+    found = {}
+    for name, start, end in zip(ids, starts, starts[1:] + [amount]):
+        places = [values[0] + k * (inner + 8) for k in range(start, end)]
+        found[name] = [(number(file, p, inner), number(file, p + inner, 8)) for p in places]
+        if not rising([least - 1] + [n for n, _ in found[name]]):
+            raise Refused(11)
+    return found
+
+
+def lookup(kind, file, i, outer, inner):
+    try:
+        sub = block(kind, file, i).get(outer, [])
+    except Refused as r:
+        return "refused", r.args[0]
+    for name, bits in sub:
+        if name == inner:
+            return "found", bits
+    return ("absent",)
+
+
+def profile_lookup(file, profile, context, metric):
+    """("found", bits), ("absent",) or ("refused", number)"""
+    return lookup("profile", file, profile, context, metric)
+
+
+def cct_lookup(file, profile, context, metric):
+    return lookup("cct", file, context, metric, profile)
+
+
+def cct_totals(file, context, metric):
+    """("totals", count, profile and bits of the smallest, of the greatest, bits of the sum), ("absent",) or ("refused", number)"""
+    try:
+        sub = block("cct", file, context).get(metric)
+    except Refused as r:
+        return "refused", r.args[0]
+    if sub is None:
+        return ("absent",)
+    numbers = [double(bits) for _, bits in sub]
+    if not all(float("-inf") < x < float("inf") for x in numbers):
+        return "refused", 16
+    low = high = 0
+    total = numbers[0]
+    for k in range(1, len(numbers)):
+        low = k if numbers[k] < numbers[low] else low
+        high = k if numbers[k] > numbers[high] else high
+        total = total + numbers[k]
+    return ("totals", len(sub)) + sub[low] + sub[high] + (bits_of(total),)

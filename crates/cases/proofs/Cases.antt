@@ -7,19 +7,27 @@ use Rattle.layout.specs.Bytes.{bytes, fields, join}
 use Rattle.layout.specs.Stands.{starts, stands}
 use Rattle.refusal.specs.Check.{rule, first, ifPassed}
 use Rattle.open.specs.Opening.{placeFor, pairAt, pairsFrom, pairs, sectionRule, strideRule, arrayRule, contextsRule, field, numberAt, strideRules, contentRule, headerRule, frontRules, inOrder, sectionCheck, headerCheck, openingWith, opening}
-use Rattle.array.specs.Element.{linkedBelow, linked}
+use Rattle.array.specs.Element.{elementIf, elementAt, onElement, linkedBelow, linked}
 use Rattle.array.specs.Stored.{arrayOf}
 use Rattle.flex.specs.Packing.{bit, oneMore, present, before, words}
 use Rattle.context.specs.Context.{extent, ifPresent, flexAt, contextRule, linkRule, linksRule, childrenRule, pointerCheck, contextCheck, targetsOf}
 use Rattle.context.specs.Entry.{entryAt}
 use Rattle.traversal.specs.Traversal.{seen, slotCheck, visitCheck, enter, visit, bind, turn, siblings, level, fromRoots, traversal}
 use Rattle.traversal.specs.Walk.{ifShort, truncate, walkOf, walkedOf, walkedWords}
+use Rattle.seq.specs.Sequence.{every, floor, rises, hereOr, position}
+use Rattle.block.specs.Block.{blockAt, idAt, wordAt, apart, apartAll, lies, rangeRule, startOf, endOr, endOf, partOf, partAt, orderRule, ifNone, blockCheck, valueAt, inPart, lookupIn, lookupWords}
+use Rattle.lookup.specs.Lookup.{checkedBlock, checkedAt, onChecked, lookupAt, profileLookup}
 use Rattle.cases.specs.W.{parts, w, built, magic, common}
+use Rattle.cases.specs.B.{three, five, bParts, b}
 use Rattle.cases.specs.Flex.{flexParts, flexFile, aModule, aFile, aFunction}
 
 -- a walk's answer in words: 0 whole, 101 cut, or the refusal's number; then the number listed
 abbrev walked : (file : List ℕ) (listing table : ℕ) → List ℕ
 walked file listing table = walkedWords (walkedOf (walkOf file listing table))
+
+-- a lookup's: 0 found, 100 absent, or the refusal's number; then the bits
+abbrev looked : (file : List ℕ) (context metric : ℕ) → List ℕ
+looked file context metric = lookupWords (profileLookup file 0 context metric)
 
 pub cases : _≡_ {A = List (List ℕ)}
     (walked w 4 5
@@ -32,6 +40,14 @@ pub cases : _≡_ {A = List (List ℕ)}
     -- flags 3 with 2 words; flags 6 with 4
     ∷ walked (flexFile 3 (aFunction ∷ aFile ∷ [])) 4 5
     ∷ walked (flexFile 6 (aFile ∷ 7 ∷ aModule ∷ 5 ∷ [])) 4 5
+    -- B
+    ∷ looked (b 0 2) 5 4
+    ∷ looked (b 0 2) 9 1
+    ∷ looked (b 0 2) 9 4
+    ∷ looked (b 0 2) 7 1
+    -- starts 0, 0 and 1, 2
+    ∷ looked (b 0 0) 5 4
+    ∷ looked (b 1 2) 5 4
     ∷ [])
     ((0 ∷ 4 ∷ [])
     ∷ (101 ∷ 3 ∷ [])
@@ -41,6 +57,12 @@ pub cases : _≡_ {A = List (List ℕ)}
     ∷ (14 ∷ 1 ∷ [])
     ∷ (10 ∷ 0 ∷ [])
     ∷ (0 ∷ 1 ∷ [])
+    ∷ (0 ∷ three ∷ [])
+    ∷ (0 ∷ five ∷ [])
+    ∷ (100 ∷ 0 ∷ [])
+    ∷ (100 ∷ 0 ∷ [])
+    ∷ (11 ∷ 0 ∷ [])
+    ∷ (11 ∷ 0 ∷ [])
     ∷ [])
-unfolding parts w built join fields bytes magic common flexParts flexFile number starts stands rule first ifPassed placeFor pairAt pairsFrom pairs sectionRule strideRule arrayRule contextsRule field numberAt strideRules contentRule headerRule frontRules inOrder sectionCheck headerCheck openingWith opening linkedBelow linked arrayOf bit oneMore present before words extent ifPresent flexAt contextRule linkRule linksRule childrenRule pointerCheck contextCheck targetsOf entryAt seen slotCheck visitCheck enter visit bind turn siblings level fromRoots traversal ifShort truncate walkOf walkedOf walkedWords
+unfolding parts w built join fields bytes magic common flexParts flexFile number starts stands rule first ifPassed placeFor pairAt pairsFrom pairs sectionRule strideRule arrayRule contextsRule field numberAt strideRules contentRule headerRule frontRules inOrder sectionCheck headerCheck openingWith opening linkedBelow linked arrayOf bit oneMore present before words extent ifPresent flexAt contextRule linkRule linksRule childrenRule pointerCheck contextCheck targetsOf entryAt seen slotCheck visitCheck enter visit bind turn siblings level fromRoots traversal ifShort truncate walkOf walkedOf walkedWords bParts b elementIf elementAt onElement every floor rises hereOr position blockAt idAt wordAt apart apartAll lies rangeRule startOf endOr endOf partOf partAt orderRule ifNone blockCheck valueAt inPart lookupIn lookupWords checkedBlock checkedAt onChecked lookupAt profileLookup
 cases = refl

@@ -1,3 +1,4 @@
 pub mod W
 pub mod Flex
+pub mod B
 pub mod Opening

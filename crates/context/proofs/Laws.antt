@@ -14,7 +14,8 @@ use Rattle.flex.proofs.Count.{inside}
 use Rattle.context.specs.Context.{flags, flexWords, extent, contextRule, Readable}
 
 -- a present field ends inside what its flags need
-pub field-inside : (kind j b : ℕ) (present : Bool) → j < 5 → present ≡ bit kind (getD packing j 0) → present ≡ true → b ≡ before kind j → b < words kind
+pub field-inside : (kind j b : ℕ) (present : Bool) → j < 5 → present ≡ bit kind (getD packing j 0) → present ≡ true → b ≡ before kind j
+    → b < words kind
 field-inside kind j b present h e t k = omega (arith, inside kind j h (sym e ∙ t))
 
 leb-shift : (a b c : ℕ) → a ≤ c → leb b (c - a) ≡ leb (a + b) c

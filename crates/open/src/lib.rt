@@ -79,7 +79,7 @@ fn front(file: &[u8], magic: &[u8], footer: &[u8], header: u64) -> Check
 }
 
 // The start of the last eight bytes.
-fn last_eight(file: &[u8]) -> u64
+pub fn last_eight(file: &[u8]) -> u64
     ensures { λ r. ⌜ r ≡ length (now (file .entry)) - 8 ⌝ }
 {
     let n = file.len() as u64;

@@ -91,7 +91,8 @@ more file old new h k =
     let same : Final (old .answer) → walked new ≡ walked old =
     λ f. entries-same file _ _ _ _ h k (subst Final (old .answers) f) in
     record {
-      begins = rw (listed-places old, listed-places new) (begins-map placeOf (listOf (walked old)) (listOf (walked new)) (entries-begin file _ _ _ _ h k));
+      begins = rw (listed-places old, listed-places new)
+          (begins-map placeOf (listOf (walked old)) (listOf (walked new)) (entries-begin file _ _ _ _ h k));
       same-list = λ f. listed-places new ∙ ap (λ (o : Outcome). map placeOf (listOf o)) (same f) ∙ sym (listed-places old);
       same-end = λ f. new .answers ∙ ap walkedOf (same f) ∙ sym (old .answers);
     }

@@ -20,7 +20,8 @@ number-of (on l) = refl
 number-of (cut l) = refl
 number-of (refused r l) = refl
 
-pub listed-least : (file : List ℕ) (room slots : ℕ) → numberListed (walkedOf (walkOf file room slots)) ≡ min (length (listOf (traversal file slots))) room
+pub listed-least : (file : List ℕ) (room slots : ℕ)
+    → numberListed (walkedOf (walkOf file room slots)) ≡ min (length (listOf (traversal file slots))) room
 unfolding walkOf
 listed-least file room slots =
     number-of (truncate room (traversal file slots)) ∙ ap length (list-truncate room (traversal file slots))

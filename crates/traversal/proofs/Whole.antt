@@ -44,7 +44,8 @@ module _ (f : List ℕ) (t : Targets) (slots limit : ℕ) where
   abbrev endless : Parameters
   endless = record { file = f; targets = t; slots = slots; limit = limit; free = λ l. true }
 
-  uncut-siblings : (down : Down) → UncutDown down → (parent : ℕ) (ups : List ℕ) (bound i p stop : ℕ) → Uncut (siblings endless down parent ups bound i p stop)
+  uncut-siblings : (down : Down) → UncutDown down → (parent : ℕ) (ups : List ℕ) (bound i p stop : ℕ)
+      → Uncut (siblings endless down parent ups bound i p stop)
   unfolding siblings visit
   uncut-siblings down g parent ups zero i p stop l = refl
   uncut-siblings down g parent ups (suc bound) i p stop l =

@@ -114,7 +114,8 @@ module _ (file : List ℕ) (t : Targets) (depth at stop : ℕ) (was : Lent) (l :
     pub going-on : (q m : ℕ) → r ≡ Complete m → q ≡ extent file p → Going s' (p + q) m
     going-on q m e z =
         let u = turned p (g .bound) (g .i) (g .so) k (g .enough) (takes-some file p) in
-        rw z (go-by (p + extent file p) (u .0) (suc (g .i)) m (visit E down parent (ups ++ (g .i ∷ [])) p stop (g .so)) s' (u .1) (g .same ∙ u .2) (rw e at here))
+        rw z
+        (go-by (p + extent file p) (u .0) (suc (g .i)) m (visit E down parent (ups ++ (g .i ∷ [])) p stop (g .so)) s' (u .1) (g .same ∙ u .2) (rw e at here))
 
     pub going-stop : ((m : ℕ) → r ≡ Complete m → ⊥) → Done was all r s'
     going-stop z =

@@ -124,7 +124,8 @@ length-records was l = length-over was 0 (wordsOf (take (length was / wordsEach)
 
 records-snoc : (was : List ℕ) (l : List Entry) (e : Entry)
     → recordsWith (l ++ (e ∷ [])) was
-    ≡ ifRoom (ltb (length l) (length (recordsWith l was) / wordsEach)) (over (recordsWith l was) (length l * wordsEach) (entryWords e)) (recordsWith l was)
+    ≡ ifRoom (ltb (length l) (length (recordsWith l was) / wordsEach)) (over (recordsWith l was) (length l * wordsEach) (entryWords e))
+    (recordsWith l was)
 unfolding recordsWith ifRoom
 records-snoc was l e = rw (length-records was l) (go (ltb (length l) (length was / wordsEach)) refl)
   where
@@ -137,7 +138,15 @@ records-snoc was l e = rw (length-records was l) (go (ltb (length l) (length was
         let short = ltb-true (length l) m h in
         let all : take m (l ++ (e ∷ [])) ≡ l ++ (e ∷ []) = take-all m (l ++ (e ∷ [])) (omega (arith, length-append l (e ∷ []))) in
         let most : take m l ≡ l = take-all m l (omega arith) in
-        rw (all, most, words-append l (e ∷ []), words-one e, over-append (wordsOf l) (entryWords e) was 0, zero-add (length (wordsOf l)), length-words l)
+        rw (
+          all,
+          most,
+          words-append l (e ∷ []),
+          words-one e,
+          over-append (wordsOf l) (entryWords e) was 0,
+          zero-add (length (wordsOf l)),
+          length-words l,
+        )
     go false h = rw (take-append-le m l (e ∷ []) (ltb-false (length l) m h))
 
 -- ---- all of them

@@ -64,13 +64,15 @@ module _ (file : List ℕ) (t : Targets) (depth p stop n : ℕ) (s : Slices) whe
       go false e = no-slot depth depthLimit id (was .slots) (seen id l) (taken (s .table) id) e
 
   module _ (fine : contextRule file p stop ≡ true) where
-    judged : (was : Lent) (l : List Entry) (path : List ℕ) → length path ≡ depth → Holds was l s n → visitCheck (limited file t was) path p stop l ≡ checks
+    judged : (was : Lent) (l : List Entry) (path : List ℕ) → length path ≡ depth → Holds was l s n
+        → visitCheck (limited file t was) path p stop l ≡ checks
     unfolding visitCheck contextCheck rule first
     judged was l path d h = rw (fine, d, same-slot was l h)
 
     pub does-refused : (c : Check) (r : Refusal) → c ≡ checks → c ≡ Check.Refused r → ContextDoes file t depth p stop n s (Refused r n) s
     does-refused c r e z was l parent path d h =
-        rw (visit-refused (limited file t was) (below (limited file t was) (suc depthLimit - depth)) parent path p stop l r (judged was l path d h ∙ sym e ∙ z))
+        rw
+        (visit-refused (limited file t was) (below (limited file t was) (suc depthLimit - depth)) parent path p stop l r (judged was l path d h ∙ sym e ∙ z))
         (done-refused was s l n h r)
 
     module _ (c : Check) (e : c ≡ checks) (z : c ≡ Check.Passed) where
@@ -85,7 +87,8 @@ module _ (file : List ℕ) (t : Targets) (depth p stop n : ℕ) (s : Slices) whe
       safe =
           let both = first-passes (pointerCheck t file p) (slotCheck depth depthLimit id (length (s .table)) (taken (s .table) id)) .0 (sym e ∙ z) in
           let pointers = first-passes (rule (linksRule t file p) No.Link) (rule (childrenRule t file p) No.Array) .0 (both .0) in
-          let deep = first-passes (rule (leb depth depthLimit) No.Deep) (first (rule (ltb id (length (s .table))) No.Slot) (rule (not (taken (s .table) id)) No.Twice)) .0 (both .1) in
+          let deep = first-passes (rule (leb depth depthLimit) No.Deep)
+          (first (rule (ltb id (length (s .table))) No.Slot) (rule (not (taken (s .table) id)) No.Twice)) .0 (both .1) in
           let slot = first-passes (rule (ltb id (length (s .table))) No.Slot) (rule (not (taken (s .table) id)) No.Twice) .0 (deep .1) in
           record {
             children = contexts-iff (t .at) 16 (t .size) (field file p childrenPlace) (field file p childrenBytes) .0
@@ -96,7 +99,8 @@ module _ (file : List ℕ) (t : Targets) (depth p stop n : ℕ) (s : Slices) whe
 
       pub does-cut : length (s .listing) ≤ n → ContextDoes file t depth p stop n s (Truncated n) s
       does-cut k was l parent path d h =
-          rw (visit-cut (limited file t was) (below (limited file t was) (suc depthLimit - depth)) parent path p stop l (judged was l path d h ∙ sym e ∙ z)
+          rw
+          (visit-cut (limited file t was) (below (limited file t was) (suc depthLimit - depth)) parent path p stop l (judged was l path d h ∙ sym e ∙ z)
           (le-ltb (length l) (length (was .listing)) (omega (arith, long h, h .counted))))
           (done-cut was s l n h)
 
@@ -131,6 +135,7 @@ module _ (file : List ℕ) (t : Targets) (depth p stop n : ℕ) (s : Slices) whe
             (goes-on was l parent path d h ∙ level-siblings E' left p path place (place + bytes) (with was l parent path d h)
             ∙ siblings-end E' (below E' left) p path (place + bytes - place) 0 place (place + bytes) (with was l parent path d h) (omega arith))
 
-        pub does-deep : (r : Walked) (s' : Slices) → ArrayDoes file t (depth + 1) place (place + bytes) (n + 1) after r s' → ContextDoes file t depth p stop n s r s'
+        pub does-deep : (r : Walked) (s' : Slices) → ArrayDoes file t (depth + 1) place (place + bytes) (n + 1) after r s'
+            → ContextDoes file t depth p stop n s r s'
         does-deep r s' does was l parent path d h =
             rw (goes-on was l parent path d h) (does was (with was l parent path d h) p path (omega arith) (listed was l parent path d h))

@@ -54,7 +54,8 @@ returns : tie.Need-returns Inv-loop μ-loop
 returns c =
     let l = c .before .loop in
     let a = c .before .before .args in
-    sym (over-none (l .out) (a .at + l .k)) ∙ ap (over (l .out) (a .at + l .k)) (sym (drop-of-length-le (a .words .now) (c .loop-test .left))) ∙ l .inv .2
+    sym (over-none (l .out) (a .at + l .k)) ∙ ap (over (l .out) (a .at + l .k)) (sym (drop-of-length-le (a .words .now) (c .loop-test .left))) ∙ l
+    .inv .2
 
 pub store-spec : {M : Type 1} → statement M
 store-spec =

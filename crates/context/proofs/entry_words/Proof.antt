@@ -61,7 +61,21 @@ returns c =
     let has-point = c .before .before .before .before .before .before .before .before .before .has-point in
     let has-source = c .before .before .before .before .before .before .before .before .before .before .has-source in
     let load-u8 = c .before .before .before .before .before .before .before .before .before .before .before .load-u8 in
-    λ parent path depth. rw (depth, load-u83 .ensures, load-u82 .ensures, load-u32 .ensures, flex-word4 .ensures, flex-word3 .ensures, line .ensures, flex-word2 .ensures, flex-word .ensures, has-function .ensures, has-point .ensures, has-source .ensures, load-u8 .ensures)
+    λ parent path depth. rw (
+      depth,
+      load-u83 .ensures,
+      load-u82 .ensures,
+      load-u32 .ensures,
+      flex-word4 .ensures,
+      flex-word3 .ensures,
+      line .ensures,
+      flex-word2 .ensures,
+      flex-word .ensures,
+      has-function .ensures,
+      has-point .ensures,
+      has-source .ensures,
+      load-u8 .ensures,
+    )
 
 pub entry-words-spec : {M : Type 1} → statement M
 entry-words-spec =

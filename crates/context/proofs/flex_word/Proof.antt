@@ -13,7 +13,12 @@ mul-load-u64 c =
     let pre = c .before .before .before .pre in
     let if1 = c .before .if1 in
     let good = c .before .before .before .good in
-    omega (arith, field-inside (args .kind) (args .j) (before2 .result) (args .present) (pre .1 .0) (pre .1 .1) (if1 .taken) (before2 .ensures), pre .0, good)
+    omega (
+      arith,
+      field-inside (args .kind) (args .j) (before2 .result) (args .present) (pre .1 .0) (pre .1 .1) (if1 .taken) (before2 .ensures),
+      pre .0,
+      good,
+    )
 
 add-load-u64-2 : tie.Need-add-load-u64-2
 add-load-u64-2 c =
@@ -22,7 +27,12 @@ add-load-u64-2 c =
     let pre = c .before .before .before .pre in
     let if1 = c .before .if1 in
     let good = c .before .before .before .good in
-    omega (arith, field-inside (args .kind) (args .j) (before2 .result) (args .present) (pre .1 .0) (pre .1 .1) (if1 .taken) (before2 .ensures), pre .0, good)
+    omega (
+      arith,
+      field-inside (args .kind) (args .j) (before2 .result) (args .present) (pre .1 .0) (pre .1 .1) (if1 .taken) (before2 .ensures),
+      pre .0,
+      good,
+    )
 
 load-u64-requires : tie.Need-load-u64-requires
 load-u64-requires c κs =
@@ -30,7 +40,11 @@ load-u64-requires c κs =
     let before2 = c .before2 in
     let pre = c .before .before .before .pre in
     let if1 = c .before .if1 in
-    omega (arith, field-inside (args .kind) (args .j) (before2 .result) (args .present) (pre .1 .0) (pre .1 .1) (if1 .taken) (before2 .ensures), pre .0)
+    omega (
+      arith,
+      field-inside (args .kind) (args .j) (before2 .result) (args .present) (pre .1 .0) (pre .1 .1) (if1 .taken) (before2 .ensures),
+      pre .0,
+    )
 
 returns : tie.Need-returns
 unfolding ifPresent

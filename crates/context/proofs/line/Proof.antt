@@ -14,7 +14,12 @@ mul-load-u32 c =
     let if1 = c .before .if1 in
     let pre = c .before .before .before .before .pre in
     let good = c .before .before .before .before .good in
-    omega (arith, field-inside (args .kind) 2 (before2 .result) (has-source .result) (omega arith) (has-source .ensures) (if1 .taken) (before2 .ensures), pre, good)
+    omega (
+      arith,
+      field-inside (args .kind) 2 (before2 .result) (has-source .result) (omega arith) (has-source .ensures) (if1 .taken) (before2 .ensures),
+      pre,
+      good,
+    )
 
 add-load-u32-2 : tie.Need-add-load-u32-2
 add-load-u32-2 c =
@@ -24,7 +29,12 @@ add-load-u32-2 c =
     let if1 = c .before .if1 in
     let pre = c .before .before .before .before .pre in
     let good = c .before .before .before .before .good in
-    omega (arith, field-inside (args .kind) 2 (before2 .result) (has-source .result) (omega arith) (has-source .ensures) (if1 .taken) (before2 .ensures), pre, good)
+    omega (
+      arith,
+      field-inside (args .kind) 2 (before2 .result) (has-source .result) (omega arith) (has-source .ensures) (if1 .taken) (before2 .ensures),
+      pre,
+      good,
+    )
 
 load-u32-requires : tie.Need-load-u32-requires
 load-u32-requires c κs =
@@ -33,7 +43,11 @@ load-u32-requires c κs =
     let has-source = c .before .before .has-source in
     let if1 = c .before .if1 in
     let pre = c .before .before .before .before .pre in
-    omega (arith, field-inside (args .kind) 2 (before2 .result) (has-source .result) (omega arith) (has-source .ensures) (if1 .taken) (before2 .ensures), pre)
+    omega (
+      arith,
+      field-inside (args .kind) 2 (before2 .result) (has-source .result) (omega arith) (has-source .ensures) (if1 .taken) (before2 .ensures),
+      pre,
+    )
 
 returns : tie.Need-returns
 unfolding ifPresent

@@ -18,15 +18,18 @@ flex-word-requires-2 : tie.Need-flex-word-requires-2
 unfolding field
 flex-word-requires-2 c κs =
     let load-u8 = c .before .before .before .before .before .before .before .before .before .before .before .before .before .before .load-u8 in
-    let pre = c .before .before .before .before .before .before .before .before .before .before .before .before .before .before .before .before .pre in
+    let pre = c .before .before .before .before .before .before .before .before .before .before .before .before .before .before .before .before .pre
+    in
     let has-source = c .before .before .before .has-source in
     (rw (load-u8 .ensures) (pre .ends), (omega arith, has-source .ensures))
 
 flex-word-requires-3 : tie.Need-flex-word-requires-3
 unfolding field
 flex-word-requires-3 c κs =
-    let load-u8 = c .before .before .before .before .before .before .before .before .before .before .before .before .before .before .before .before .load-u8 in
-    let pre = c .before .before .before .before .before .before .before .before .before .before .before .before .before .before .before .before .before .before .pre in
+    let load-u8 = c .before .before .before .before .before .before .before .before .before .before .before .before .before .before .before .before
+    .load-u8 in
+    let pre = c .before .before .before .before .before .before .before .before .before .before .before .before .before .before .before .before
+    .before .before .pre in
     let has-point = c .before .before .before .before .has-point in
     (rw (load-u8 .ensures) (pre .ends), (omega arith, has-point .ensures))
 
@@ -42,8 +45,20 @@ returns c =
     let has-function = c .before .before .before .before .before .before .before .before .has-function in
     let has-source = c .before .before .before .before .before .before .before .has-source in
     let has-point = c .before .before .before .before .before .before .has-point in
-    let load-u8 = c .before .before .before .before .before .before .before .before .before .before .before .before .before .before .before .before .before .before .load-u8 in
-    rw (link-rule .ensures, link-rule2 .ensures, link-rule3 .ensures, flex-word .ensures, flex-word2 .ensures, flex-word3 .ensures, has-function .ensures, has-source .ensures, has-point .ensures, load-u8 .ensures)
+    let load-u8 = c .before .before .before .before .before .before .before .before .before .before .before .before .before .before .before .before
+    .before .before .load-u8 in
+    rw (
+      link-rule .ensures,
+      link-rule2 .ensures,
+      link-rule3 .ensures,
+      flex-word .ensures,
+      flex-word2 .ensures,
+      flex-word3 .ensures,
+      has-function .ensures,
+      has-source .ensures,
+      has-point .ensures,
+      load-u8 .ensures,
+    )
 
 pub links-rule-spec : {M : Type 1} → statement M
 links-rule-spec =

@@ -17,7 +17,16 @@ returns c =
     let load-u642 = c .before .before .before .before .before .before .load-u642 in
     let links-rule = c .before .before .before .before .before .before .before .before .links-rule in
     let args = c .before .before .before .before .before .before .before .before .before .before .args in
-    rw (first .ensures, rule .ensures, rule2 .ensures, contexts-rule .ensures, load-u64 .ensures, load-u642 .ensures, links-rule .ensures, add-zero (args .p))
+    rw (
+      first .ensures,
+      rule .ensures,
+      rule2 .ensures,
+      contexts-rule .ensures,
+      load-u64 .ensures,
+      load-u642 .ensures,
+      links-rule .ensures,
+      add-zero (args .p),
+    )
 
 pub pointer-check-spec : {M : Type 1} → statement M
 pointer-check-spec =

@@ -65,13 +65,25 @@ abbrev array-calls : ℕ → array-lts.Claims
 array-calls t = (context-rule-reads.Asked, context-rule-reads.Learnt, visit-below t, visit.Post, extent-reads.Asked, extent-reads.Learnt)
 
 abbrev visit-calls : ℕ → visit-lts.Claims
-visit-calls t = (visit-check-reads.Asked, visit-check-reads.Learnt, load-u32-reads.Asked, load-u32-reads.Learnt, put-record-reads.Asked, put-record-reads.Learnt, load-u64-reads.Asked, load-u64-reads.Learnt, array-below t, array.Post)
+visit-calls t = (
+  visit-check-reads.Asked,
+  visit-check-reads.Learnt,
+  load-u32-reads.Asked,
+  load-u32-reads.Learnt,
+  put-record-reads.Asked,
+  put-record-reads.Learnt,
+  load-u64-reads.Asked,
+  load-u64-reads.Learnt,
+  array-below t,
+  array.Post,
+)
 
 abbrev array-Inv-loop : array-lts.InvT-loop
 array-Inv-loop file t depth at stop listing₀ table₀ records₀ count p₀ n₀ listing table records p n =
     (at ≤ p) × (length listing ≡ length listing₀) × (length table ≡ length table₀) × (length records ≡ length records₀)
     × ((was : Lent) (l : List Entry) (parent : ℕ) (ups : List ℕ) → suc (length ups) ≡ depth
-    → Holds was l (slices listing₀ table₀ records₀) count → Going file (targetsIn t) depth at stop was l parent ups (slices listing table records) p n)
+    → Holds was l (slices listing₀ table₀ records₀) count → Going file (targetsIn t) depth at stop was l parent ups (slices listing table records) p
+    n)
 
 abbrev array-μ-loop : array-lts.MeasureT-loop
 array-μ-loop file t depth at stop listing₀ table₀ records₀ count p₀ n₀ listing table records p n =
@@ -80,8 +92,13 @@ array-μ-loop file t depth at stop listing₀ table₀ records₀ count p₀ n�
 array-loop-holds : (t : ℕ) → array-lts.Need-loop-holds (array-calls t) (array-at t) array.Post array-Inv-loop array-μ-loop
 array-loop-holds t c =
     let args = c .before .before .before .before .args in
-    let file = now (args .file) in
-    (omega arith, refl, refl, refl, λ was l parent ups d h. going-start file (targetsIn (now (args .t))) (args .depth) (args .at) (args .stop) was l parent ups _ _ h)
+    let file = now (args .file) in (
+      omega arith,
+      refl,
+      refl,
+      refl,
+      λ was l parent ups d h. going-start file (targetsIn (now (args .t))) (args .depth) (args .at) (args .stop) was l parent ups _ _ h,
+    )
 
 array-context-rule-requires : (t : ℕ) → array-lts.Need-context-rule-requires (array-calls t) (array-at t) array.Post array-Inv-loop array-μ-loop
 array-context-rule-requires t c κs =
@@ -114,7 +131,8 @@ array-returns t c =
     let file = now (args .file) in
     let so = slices (loop .listing) (loop .table) (loop .records) in
     let broken = sym (context-rule .ensures) ∙ not-true (context-rule .result) (if1 .taken) in
-    λ was l parent ups d h. going-10 file (targetsIn (now (args .t))) (args .depth) (args .at) (args .stop) was l parent ups so (loop .p) (loop .n) (loop-test .taken) broken (loop .inv .4 was l parent ups d h)
+    λ was l parent ups d h. going-10 file (targetsIn (now (args .t))) (args .depth) (args .at) (args .stop) was l parent ups so (loop .p) (loop .n)
+    (loop-test .taken) broken (loop .inv .4 was l parent ups d h)
 
 array-visit-requires : (t : ℕ) → array-lts.Need-visit-requires (array-calls t) (array-at t) array.Post array-Inv-loop array-μ-loop
 array-visit-requires t c κs =
@@ -147,7 +165,8 @@ array-same-length-6 t c =
 
 array-returns-2 : (t : ℕ) → array-lts.Need-returns-2 (array-calls t) (array-at t) array.Post array-Inv-loop array-μ-loop
 array-returns-2 t c =
-    let args = c .before .before .before .before .before .before .before .before .before .before .before .before .before .before .before .before .before .before .before .args in
+    let args = c .before .before .before .before .before .before .before .before .before .before .before .before .before .before .before .before
+    .before .before .before .args in
     let loop = c .before .before .before .before .before .before .before .before .before .before .before .before .before .before .loop in
     let visit = c .before .before .before .before .before .before .before .visit in
     let loop-test = c .before .before .before .before .before .before .before .before .before .before .before .before .before .loop-test in
@@ -155,16 +174,21 @@ array-returns-2 t c =
     let file = now (args .file) in
     let so = slices (loop .listing) (loop .table) (loop .records) in
     let after = slices (visit .last .1 .1 .1 .1 .1 .0) (visit .last .1 .1 .1 .1 .1 .1 .0) (visit .last .1 .1 .1 .1 .1 .1 .1 .0) in
-    λ was l parent ups d h. going-stop file (targetsIn (now (args .t))) (args .depth) (args .at) (args .stop) was l parent ups d so (loop .p) (loop .n) (visit .result) after
+    λ was l parent ups d h. going-stop file (targetsIn (now (args .t))) (args .depth) (args .at) (args .stop) was l parent ups d so (loop .p)
+    (loop .n) (visit .result) after
     (loop-test .taken) (loop .inv .4 was l parent ups d h) (visit .ensures) (not-complete (visit .result) (match .keys2))
 
 array-extent-requires : (t : ℕ) → array-lts.Need-extent-requires (array-calls t) (array-at t) array.Post array-Inv-loop array-μ-loop
 array-extent-requires t c κs =
-    let args = c .before .before .before .before .before .before .before .before .before .before .before .before .before .before .before .before .before .before .before .before .before .args in
-    let context-rule = c .before .before .before .before .before .before .before .before .before .before .before .before .before .before .context-rule in
+    let args = c .before .before .before .before .before .before .before .before .before .before .before .before .before .before .before .before
+    .before .before .before .before .before .args in
+    let context-rule = c .before .before .before .before .before .before .before .before .before .before .before .before .before .before .context-rule
+    in
     let if1 = c .before .before .before .before .before .before .before .before .before .before .before .before .before .if1 in
-    let loop = c .before .before .before .before .before .before .before .before .before .before .before .before .before .before .before .before .loop in
-    let pre = c .before .before .before .before .before .before .before .before .before .before .before .before .before .before .before .before .before .before .before .before .before .pre in
+    let loop = c .before .before .before .before .before .before .before .before .before .before .before .before .before .before .before .before .loop
+    in
+    let pre = c .before .before .before .before .before .before .before .before .before .before .before .before .before .before .before .before
+    .before .before .before .before .before .pre in
     let file = now (args .file) in
     let fine = sym (context-rule .ensures) ∙ not-false (context-rule .result) (if1 .left) in
     let ended = ends file (loop .p) (args .stop) fine in
@@ -172,13 +196,18 @@ array-extent-requires t c κs =
 
 array-add-p : (t : ℕ) → array-lts.Need-add-p (array-calls t) (array-at t) array.Post array-Inv-loop array-μ-loop
 array-add-p t c =
-    let args = c .before .before .before .before .before .before .before .before .before .before .before .before .before .before .before .before .before .before .before .before .before .before .args in
-    let context-rule = c .before .before .before .before .before .before .before .before .before .before .before .before .before .before .before .context-rule in
+    let args = c .before .before .before .before .before .before .before .before .before .before .before .before .before .before .before .before
+    .before .before .before .before .before .before .args in
+    let context-rule = c .before .before .before .before .before .before .before .before .before .before .before .before .before .before .before
+    .context-rule in
     let if1 = c .before .before .before .before .before .before .before .before .before .before .before .before .before .before .if1 in
-    let loop = c .before .before .before .before .before .before .before .before .before .before .before .before .before .before .before .before .before .loop in
+    let loop = c .before .before .before .before .before .before .before .before .before .before .before .before .before .before .before .before
+    .before .loop in
     let extent = c .extent in
-    let pre = c .before .before .before .before .before .before .before .before .before .before .before .before .before .before .before .before .before .before .before .before .before .before .pre in
-    let good = c .before .before .before .before .before .before .before .before .before .before .before .before .before .before .before .before .before .before .before .before .before .before .good in
+    let pre = c .before .before .before .before .before .before .before .before .before .before .before .before .before .before .before .before
+    .before .before .before .before .before .before .pre in
+    let good = c .before .before .before .before .before .before .before .before .before .before .before .before .before .before .before .before
+    .before .before .before .before .before .before .good in
     let file = now (args .file) in
     let fine = sym (context-rule .ensures) ∙ not-false (context-rule .result) (if1 .left) in
     let ended = ends file (loop .p) (args .stop) fine in
@@ -187,17 +216,23 @@ array-add-p t c =
 array-loop-less : (t : ℕ) → array-lts.Need-loop-less (array-calls t) (array-at t) array.Post array-Inv-loop array-μ-loop
 array-loop-less t c =
     let extent = c .extent in
-    let args = c .before .before .before .before .before .before .before .before .before .before .before .before .before .before .before .before .before .before .before .before .before .before .args in
-    let loop = c .before .before .before .before .before .before .before .before .before .before .before .before .before .before .before .before .before .loop in
-    let loop-test = c .before .before .before .before .before .before .before .before .before .before .before .before .before .before .before .before .loop-test in
+    let args = c .before .before .before .before .before .before .before .before .before .before .before .before .before .before .before .before
+    .before .before .before .before .before .before .args in
+    let loop = c .before .before .before .before .before .before .before .before .before .before .before .before .before .before .before .before
+    .before .loop in
+    let loop-test = c .before .before .before .before .before .before .before .before .before .before .before .before .before .before .before .before
+    .loop-test in
     omega (arith, extent .ensures, takes-some (now (args .file)) (loop .p), loop-test .taken)
 
 array-loop-again : (t : ℕ) → array-lts.Need-loop-again (array-calls t) (array-at t) array.Post array-Inv-loop array-μ-loop
 array-loop-again t c =
-    let args = c .before .before .before .before .before .before .before .before .before .before .before .before .before .before .before .before .before .before .before .before .before .before .args in
-    let loop = c .before .before .before .before .before .before .before .before .before .before .before .before .before .before .before .before .before .loop in
+    let args = c .before .before .before .before .before .before .before .before .before .before .before .before .before .before .before .before
+    .before .before .before .before .before .before .args in
+    let loop = c .before .before .before .before .before .before .before .before .before .before .before .before .before .before .before .before
+    .before .loop in
     let visit = c .before .before .before .before .before .before .before .before .before .before .visit in
-    let loop-test = c .before .before .before .before .before .before .before .before .before .before .before .before .before .before .before .before .loop-test in
+    let loop-test = c .before .before .before .before .before .before .before .before .before .before .before .before .before .before .before .before
+    .loop-test in
     let extent = c .extent in
     let walked = c .before .before .walked in
     let file = now (args .file) in
@@ -207,8 +242,10 @@ array-loop-again t c =
       visit .kept .1 .1 .1 .1 .1 .0 ∙ loop .inv .1,
       visit .kept .1 .1 .1 .1 .1 .1 .0 ∙ loop .inv .2,
       visit .kept .1 .1 .1 .1 .1 .1 .1 .0 ∙ loop .inv .3,
-      λ was l parent ups d h. going-on file (targetsIn (now (args .t))) (args .depth) (args .at) (args .stop) was l parent ups d so (loop .p) (loop .n) (visit .result) after
-          (loop-test .taken) (loop .inv .4 was l parent ups d h) (visit .ensures) (extent .result) (walked .given .0 .0) (walked .given .1) (extent .ensures),
+      λ was l parent ups d h. going-on file (targetsIn (now (args .t))) (args .depth) (args .at) (args .stop) was l parent ups d so (loop .p)
+          (loop .n) (visit .result) after
+          (loop-test .taken) (loop .inv .4 was l parent ups d h) (visit .ensures) (extent .result) (walked .given .0 .0) (walked .given .1)
+          (extent .ensures),
     )
 
 array-same-length-7 : (t : ℕ) → array-lts.Need-same-length-7 (array-calls t) (array-at t) array.Post array-Inv-loop array-μ-loop
@@ -233,7 +270,8 @@ array-returns-3 t c =
     let loop-test = c .loop-test in
     let file = now (args .file) in
     let so = slices (loop .listing) (loop .table) (loop .records) in
-    λ was l parent ups d h. going-end file (targetsIn (now (args .t))) (args .depth) (args .at) (args .stop) was l parent ups so (loop .p) (loop .n) (loop-test .left) (loop .inv .4 was l parent ups d h)
+    λ was l parent ups d h. going-end file (targetsIn (now (args .t))) (args .depth) (args .at) (args .stop) was l parent ups so (loop .p) (loop .n)
+    (loop-test .left) (loop .inv .4 was l parent ups d h)
 
 visit-visit-check-requires : (t : ℕ) → visit-lts.Need-visit-check-requires (visit-calls t) (visit-at t) visit.Post
 visit-visit-check-requires t c κs =
@@ -317,15 +355,18 @@ visit-load-u64-requires t c κs =
 visit-add-t27 : (t : ℕ) → visit-lts.Need-add-t27 (visit-calls t) (visit-at t) visit.Post
 visit-add-t27 t c =
     let if1 = c .before .before .before .before .before .before .before .if1 in
-    let good = c .before .before .before .before .before .before .before .before .before .before .before .before .before .before .before .before .good in
+    let good = c .before .before .before .before .before .before .before .before .before .before .before .before .before .before .before .before .good
+    in
     omega (arith, if1 .left, good)
 
 visit-returns-3 : (t : ℕ) → visit-lts.Need-returns-3 (visit-calls t) (visit-at t) visit.Post
 visit-returns-3 t c =
-    let args = c .before .before .before .before .before .before .before .before .before .before .before .before .before .before .before .before .args in
+    let args = c .before .before .before .before .before .before .before .before .before .before .before .before .before .before .before .before .args
+    in
     let load-u32 = c .before .before .before .before .before .before .load-u32 in
     let load-u64 = c .before .load-u64 in
-    let pre = c .before .before .before .before .before .before .before .before .before .before .before .before .before .before .before .before .pre in
+    let pre = c .before .before .before .before .before .before .before .before .before .before .before .before .before .before .before .before .pre
+    in
     let visit-check = c .before .before .before .before .before .before .before .before .before .before .visit-check in
     let enum-told = c .before .before .before .before .before .before .before .before .enum-told in
     let put-record = c .before .before .before .before .put-record in
@@ -343,29 +384,37 @@ visit-returns-3 t c =
 
 visit-add-load-u64 : (t : ℕ) → visit-lts.Need-add-load-u64 (visit-calls t) (visit-at t) visit.Post
 visit-add-load-u64 t c =
-    let args = c .before .before .before .before .before .before .before .before .before .before .before .before .before .before .before .before .args in
-    let pre = c .before .before .before .before .before .before .before .before .before .before .before .before .before .before .before .before .pre in
-    let good = c .before .before .before .before .before .before .before .before .before .before .before .before .before .before .before .before .good in
+    let args = c .before .before .before .before .before .before .before .before .before .before .before .before .before .before .before .before .args
+    in
+    let pre = c .before .before .before .before .before .before .before .before .before .before .before .before .before .before .before .before .pre
+    in
+    let good = c .before .before .before .before .before .before .before .before .before .before .before .before .before .before .before .before .good
+    in
     let ended = ends (now (args .file)) (args .p) (args .stop) (pre .1 .1) in
     omega (arith, ended, pre .1 .2, good)
 
 visit-load-u64-requires-2 : (t : ℕ) → visit-lts.Need-load-u64-requires-2 (visit-calls t) (visit-at t) visit.Post
 visit-load-u64-requires-2 t c κs =
-    let args = c .before .before .before .before .before .before .before .before .before .before .before .before .before .before .before .before .args in
-    let pre = c .before .before .before .before .before .before .before .before .before .before .before .before .before .before .before .before .pre in
+    let args = c .before .before .before .before .before .before .before .before .before .before .before .before .before .before .before .before .args
+    in
+    let pre = c .before .before .before .before .before .before .before .before .before .before .before .before .before .before .before .before .pre
+    in
     let ended = ends (now (args .file)) (args .p) (args .stop) (pre .1 .1) in
     omega (arith, ended, pre .1 .2)
 
 visit-add-end : (t : ℕ) → visit-lts.Need-add-end (visit-calls t) (visit-at t) visit.Post
 visit-add-end t c =
-    let args = c .before .before .before .before .before .before .before .before .before .before .before .before .before .before .before .before .before .args in
-    let pre = c .before .before .before .before .before .before .before .before .before .before .before .before .before .before .before .before .before .pre in
+    let args = c .before .before .before .before .before .before .before .before .before .before .before .before .before .before .before .before
+    .before .args in
+    let pre = c .before .before .before .before .before .before .before .before .before .before .before .before .before .before .before .before
+    .before .pre in
     let visit-check = c .before .before .before .before .before .before .before .before .before .before .before .visit-check in
     let enum-told = c .before .before .before .before .before .before .before .before .before .enum-told in
     let load-u64 = c .before .before .load-u64 in
     let load-u642 = c .load-u642 in
     let if2 = c .before .if2 in
-    let good = c .before .before .before .before .before .before .before .before .before .before .before .before .before .before .before .before .before .good in
+    let good = c .before .before .before .before .before .before .before .before .before .before .before .before .before .before .before .before
+    .before .good in
     let file = now (args .file) in
     let t0 = targetsIn (now (args .t)) in
     let s = slices (now (args .listing)) (now (args .table)) (now (args .records)) in
@@ -378,20 +427,25 @@ visit-add-end t c =
 
 visit-add-array : (t : ℕ) → visit-lts.Need-add-array (visit-calls t) (visit-at t) visit.Post
 visit-add-array t c =
-    let pre = c .before .before .before .before .before .before .before .before .before .before .before .before .before .before .before .before .before .pre in
+    let pre = c .before .before .before .before .before .before .before .before .before .before .before .before .before .before .before .before
+    .before .pre in
     omega (arith, pre .1 .4)
 
 visit-add-array-2 : (t : ℕ) → visit-lts.Need-add-array-2 (visit-calls t) (visit-at t) visit.Post
 visit-add-array-2 t c =
     let if1 = c .before .before .before .before .before .before .before .before .before .before .before .if1 in
-    let good = c .before .before .before .before .before .before .before .before .before .before .before .before .before .before .before .before .before .before .before .before .good in
+    let good = c .before .before .before .before .before .before .before .before .before .before .before .before .before .before .before .before
+    .before .before .before .before .good in
     omega (arith, if1 .left, good)
 
 visit-array-requires : (t : ℕ) → visit-lts.Need-array-requires (visit-calls t) (visit-at t) visit.Post
 visit-array-requires t c κs =
-    let args = c .before .before .before .before .before .before .before .before .before .before .before .before .before .before .before .before .before .before .before .before .args in
-    let pre = c .before .before .before .before .before .before .before .before .before .before .before .before .before .before .before .before .before .before .before .before .pre in
-    let visit-check = c .before .before .before .before .before .before .before .before .before .before .before .before .before .before .visit-check in
+    let args = c .before .before .before .before .before .before .before .before .before .before .before .before .before .before .before .before
+    .before .before .before .before .args in
+    let pre = c .before .before .before .before .before .before .before .before .before .before .before .before .before .before .before .before
+    .before .before .before .before .pre in
+    let visit-check = c .before .before .before .before .before .before .before .before .before .before .before .before .before .before .visit-check
+    in
     let enum-told = c .before .before .before .before .before .before .before .before .before .before .before .before .enum-told in
     let load-u64 = c .before .before .before .before .before .load-u64 in
     let load-u642 = c .before .before .before .load-u642 in
@@ -406,34 +460,46 @@ visit-array-requires t c κs =
     let place = place-read file (args .p) (load-u642 .result) (load-u642 .ensures) in
     let some : 0 < field file (args .p) childrenBytes = omega (arith, if2 .left, size) in
     let falls = falls-down (2 ^ 64) 201 (args .depth) (load-u642 .result) (load-u64 .result) (args .p) (args .stop) t (pre .0)
-    (omega (arith, kept .shallow)) (omega arith) (omega (arith, ended)) in
-    (falls, (omega (arith, kept .children .after some, place), omega (arith, kept .children .inside some, size, place, pre .1 .3), pre .1 .3, omega (arith, kept .shallow)))
+    (omega (arith, kept .shallow)) (omega arith) (omega (arith, ended)) in (
+      falls,
+      (omega (arith, kept .children .after some, place), omega (arith, kept .children .inside some, size, place, pre .1 .3), pre .1 .3, omega (arith, kept .shallow)),
+    )
 
 visit-same-length-6 : (t : ℕ) → visit-lts.Need-same-length-6 (visit-calls t) (visit-at t) visit.Post
 visit-same-length-6 t c =
     let array = c .before .before .before .before .before .before .array in
-    let args = c .before .before .before .before .before .before .before .before .before .before .before .before .before .before .before .before .before .before .before .before .before .before .before .before .before .before .before .args in
+    let args = c .before .before .before .before .before .before .before .before .before .before .before .before .before .before .before .before
+    .before .before .before .before .before .before .before .before .before .before .before .args in
     array .kept .1 .1 .1 .1 .1 .0 ∙ length-set (now (args .listing)) (args .n) (args .p)
 
 visit-same-length-7 : (t : ℕ) → visit-lts.Need-same-length-7 (visit-calls t) (visit-at t) visit.Post
 visit-same-length-7 t c =
     let array = c .before .before .before .before .before .before .array in
-    let args = c .before .before .before .before .before .before .before .before .before .before .before .before .before .before .before .before .before .before .before .before .before .before .before .before .before .before .before .args in
-    let load-u32 = c .before .before .before .before .before .before .before .before .before .before .before .before .before .before .before .before .before .load-u32 in
+    let args = c .before .before .before .before .before .before .before .before .before .before .before .before .before .before .before .before
+    .before .before .before .before .before .before .before .before .before .before .before .args in
+    let load-u32 = c .before .before .before .before .before .before .before .before .before .before .before .before .before .before .before .before
+    .before .load-u32 in
     array .kept .1 .1 .1 .1 .1 .1 .0 ∙ length-set (now (args .table)) (load-u32 .result) (args .p)
 
 visit-returns-4 : (t : ℕ) → visit-lts.Need-returns-4 (visit-calls t) (visit-at t) visit.Post
 visit-returns-4 t c =
-    let args = c .before .before .before .before .before .before .before .before .before .before .before .before .before .before .before .before .before .before .before .before .before .before .before .before .before .before .before .args in
-    let load-u32 = c .before .before .before .before .before .before .before .before .before .before .before .before .before .before .before .before .before .load-u32 in
+    let args = c .before .before .before .before .before .before .before .before .before .before .before .before .before .before .before .before
+    .before .before .before .before .before .before .before .before .before .before .before .args in
+    let load-u32 = c .before .before .before .before .before .before .before .before .before .before .before .before .before .before .before .before
+    .before .load-u32 in
     let load-u64 = c .before .before .before .before .before .before .before .before .before .before .before .before .load-u64 in
     let load-u642 = c .before .before .before .before .before .before .before .before .before .before .load-u642 in
     let array = c .before .before .before .before .before .before .array in
-    let pre = c .before .before .before .before .before .before .before .before .before .before .before .before .before .before .before .before .before .before .before .before .before .before .before .before .before .before .before .pre in
-    let visit-check = c .before .before .before .before .before .before .before .before .before .before .before .before .before .before .before .before .before .before .before .before .before .visit-check in
-    let enum-told = c .before .before .before .before .before .before .before .before .before .before .before .before .before .before .before .before .before .before .before .enum-told in
-    let put-record = c .before .before .before .before .before .before .before .before .before .before .before .before .before .before .before .put-record in
-    let if1 = c .before .before .before .before .before .before .before .before .before .before .before .before .before .before .before .before .before .before .if1 in
+    let pre = c .before .before .before .before .before .before .before .before .before .before .before .before .before .before .before .before
+    .before .before .before .before .before .before .before .before .before .before .before .pre in
+    let visit-check = c .before .before .before .before .before .before .before .before .before .before .before .before .before .before .before
+    .before .before .before .before .before .before .visit-check in
+    let enum-told = c .before .before .before .before .before .before .before .before .before .before .before .before .before .before .before .before
+    .before .before .before .enum-told in
+    let put-record = c .before .before .before .before .before .before .before .before .before .before .before .before .before .before .before
+    .put-record in
+    let if1 = c .before .before .before .before .before .before .before .before .before .before .before .before .before .before .before .before
+    .before .before .if1 in
     let file = now (args .file) in
     let t0 = targetsIn (now (args .t)) in
     let s = slices (now (args .listing)) (now (args .table)) (now (args .records)) in

@@ -23,7 +23,8 @@ returns-2 c =
     let if1 = c .before .before .before .before .before .before .if1 in
     let entry-words = c .before .before .before .before .before .entry-words in
     let store = c .before .before .store in
-    λ parent path d. rw (lt-ltb (args .n) (length (now (args .records)) / 11) (omega (arith, if1 .left)), ← entry-words .ensures parent path d) (store .ensures)
+    λ parent path d. rw (lt-ltb (args .n) (length (now (args .records)) / 11) (omega (arith, if1 .left)), ← entry-words .ensures parent path d)
+    (store .ensures)
 
 pub put-record-spec : {M : Type 1} → statement M
 put-record-spec =

@@ -33,7 +33,12 @@ returns-3 c =
     let if1 = c .before .before .before .if1 in
     let if2 = c .before .before .if2 in
     let rule = c .rule in
-    rw (le-leb (args .depth) depthLimit (omega (arith, if1 .left)), lt-ltb (args .id) (length (now (args .table))) (omega (arith, if2 .left)), rule .ensures, not-not (eqb (getD (now (args .table)) (args .id) 0) 0))
+    rw (
+      le-leb (args .depth) depthLimit (omega (arith, if1 .left)),
+      lt-ltb (args .id) (length (now (args .table))) (omega (arith, if2 .left)),
+      rule .ensures,
+      not-not (eqb (getD (now (args .table)) (args .id) 0) 0),
+    )
 
 pub slot-check-spec : {M : Type 1} → statement M
 slot-check-spec =

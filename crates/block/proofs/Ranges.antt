@@ -1,0 +1,75 @@
+-- What the range rule gives: room for both arrays; and a block that passed its check is valid.
+use Prim.Native.Nat.{ℕ, _+_, _-_, _*_, _≤_, _<_}
+use mathlib.Core.Bool.{Bool, true, false, _&&_, _||_}
+use mathlib.Core.List.{List, [], _∷_}
+use mathlib.Core.Path.{_≡_, refl, sym, ap, _∙_}
+use native.Mathlib.Omega.{arith}
+use borrow.Author.Tests.{leb-true, eq-eqb, ne-eqb}
+use lib.Dec.{leb, eqb}
+use lib.ListN.{length, getD}
+use Rattle.range.specs.Range.{within, multiple}
+use Rattle.range.proofs.Tests.{both, within-iff}
+use Rattle.refusal.specs.declared.Refusal.the-variants as No
+use Rattle.refusal.specs.declared.Check.the-variants as Check
+use Rattle.refusal.specs.Check.{rule, first}
+use Rattle.refusal.proofs.Checks.{rule-passes, first-passes}
+use Rattle.block.specs.declared.Shape.{Shape}
+use Rattle.block.specs.declared.Block.{Block}
+use Rattle.block.specs.Block.{apart, apartAll, lies, rangeRule, orderRule, ifNone, blockCheck, Widths, Room, Valid}
+
+pub and-true : (a : Bool) → (a && true) ≡ a
+and-true true = refl
+and-true false = refl
+
+module _ (file : List ℕ) (h : Shape) (sections : List (List ℕ)) (b : Block) where
+  lies-ends : (header at n : ℕ) → lies file header sections at n ≡ true → at + n ≤ length file
+  unfolding lies
+  lies-ends header at n e =
+      omega (arith, within-iff header (length file - 8) at n .0 (both (within header (length file - 8) at n) (apartAll at n sections) .0 e .0) .1)
+
+  pub room-of : rangeRule file h sections b ≡ true → Widths h → 0 < b .count → Room file h b
+  unfolding rangeRule
+  room-of e w z =
+      let p = both (multiple (b .values) 2 && multiple (b .indices) 4) _ .0 e in
+      let q = both
+      (lies file (h .header) sections (b .values) (b .total * (h .inner + 8)) && lies file (h .header) sections (b .indices) (b .count * (h .outer + 8)))
+      _ .0 (p .1) in
+      let r = both (lies file (h .header) sections (b .values) (b .total * (h .inner + 8))) _ .0 (q .0) in
+      record {
+        indices = record { width = w .0; room = lies-ends (h .header) (b .indices) (b .count * (h .outer + 8)) (r .1) };
+        values = record { width = w .1; room = lies-ends (h .header) (b .values) (b .total * (h .inner + 8)) (r .0) };
+        some-index = z;
+      }
+
+  -- by the number of indices
+  pub none-check : b .count ≡ 0 → rule (eqb (b .total) 0) No.Array ≡ blockCheck file h sections b
+  unfolding blockCheck ifNone
+  none-check z = rw (eq-eqb (b .count) 0 z)
+
+  some-check : (b .count ≡ 0 → ⊥)
+      → blockCheck file h sections b ≡ first (rule (rangeRule file h sections b) No.Array) (rule (orderRule file h b) No.Order)
+  unfolding blockCheck ifNone
+  some-check z = rw (ne-eqb (b .count) 0 z)
+
+  pub range-check : (b .count ≡ 0 → ⊥) → rangeRule file h sections b ≡ false → Check.Refused No.Array ≡ blockCheck file h sections b
+  unfolding rule first
+  range-check z e = sym (some-check z ∙ rw e)
+
+  pub order-check : (b .count ≡ 0 → ⊥) → rangeRule file h sections b ≡ true → rule (orderRule file h b) No.Order ≡ blockCheck file h sections b
+  unfolding rule first
+  order-check z e = sym (some-check z ∙ rw e)
+
+  pub valid : Widths h → blockCheck file h sections b ≡ Check.Passed → Valid file h b
+  valid w e = record {
+    room = λ z. room-of (rule-passes (rangeRule file h sections b) No.Array .0 (passes z .0)) w z;
+    order = λ z. rule-passes (orderRule file h b) No.Order .0 (passes z .1);
+  }
+    where
+      passes : 0 < b .count → (rule (rangeRule file h sections b) No.Array ≡ Check.Passed) × (rule (orderRule file h b) No.Order ≡ Check.Passed)
+      passes z = first-passes (rule (rangeRule file h sections b) No.Array) (rule (orderRule file h b) No.Order) .0
+          (sym (some-check (λ n. omega arith)) ∙ e)
+
+-- a second section of size 0 counts for nothing
+pub one-section : (at n : ℕ) (p : List ℕ) → apartAll at n (p ∷ (0 ∷ 0 ∷ []) ∷ []) ≡ apartAll at n (p ∷ [])
+unfolding apartAll apart
+one-section at n p = refl

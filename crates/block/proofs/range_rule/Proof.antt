@@ -1,0 +1,40 @@
+-- The tests, put for their definitions.
+use Rattle.block.proofs.Parts.{small}
+use Rattle.block.specs.Block.{rangeRule}
+use native.Mathlib.Omega.{arith}
+use borrow.Author.Needs.{needs}
+use Rattle.block.proofs.range_rule.Statement.{statement}
+use Rattle.block.proofs.range_rule.Tie as tie
+
+add-value : tie.Need-add-value
+add-value c =
+    let pre = c .before .before .pre in
+    omega (arith, small (pre .1))
+
+add-index : tie.Need-add-index
+add-index c =
+    let pre = c .before .before .before .pre in
+    omega (arith, small (pre .0))
+
+returns : tie.Need-returns
+unfolding rangeRule
+returns c =
+    let multiple = c .before .before .before .before .before .multiple in
+    let multiple2 = c .before .before .before .before .multiple2 in
+    let array-lies = c .before .before .before .array-lies in
+    let array-lies2 = c .before .before .array-lies2 in
+    let ends-by = c .before .ends-by in
+    rw (multiple .ensures, multiple2 .ensures, array-lies .ensures, array-lies2 .ensures, ends-by .ensures)
+
+pub range-rule-spec : {M : Type 1} → statement M
+range-rule-spec =
+    tie.close
+    (tie.spec
+    add-value
+    add-index
+    (λ c κs. search needs)
+    (λ c κs. search needs)
+    (λ c κs. search needs)
+    (λ c κs. search needs)
+    (λ c κs. search needs)
+    returns)

@@ -1,0 +1,14 @@
+-- The word of an index.
+use Rattle.block.specs.Block.{startOf}
+use borrow.Author.Needs.{needs}
+use Rattle.block.proofs.start_of.Statement.{statement}
+use Rattle.block.proofs.start_of.Tie as tie
+
+returns : tie.Need-returns
+unfolding startOf
+returns c =
+    let word-at = c .word-at in
+    word-at .ensures
+
+pub start-of-spec : {M : Type 1} → statement M
+start-of-spec = tie.close (tie.spec (λ c κs. search needs) returns)

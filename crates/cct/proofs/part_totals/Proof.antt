@@ -1,0 +1,141 @@
+-- The entries passed are finite and in the tally.
+use borrow.Author.Needs.{needs}
+use Rattle.block.specs.Block.{idAt, wordAt}
+use Rattle.total.proofs.Loop.{Summing, summing-start, summing-more, summing-not, summing-all}
+use Rattle.float.specs.Float.{finite}
+use borrow.Author.Tests.{not-true, not-false}
+use mathlib.Core.Path.{sym, ap, _∙_}
+use Prim.Native.Nat.{_-_}
+use Rattle.cct.specs.Totals.{partTotals}
+use denote.Ref.{now}
+use native.Mathlib.Omega.{arith}
+use Rattle.cct.proofs.part_totals.Statement.{statement}
+use Rattle.cct.proofs.part_totals.Tie as tie
+
+abbrev Inv-loop : tie.InvT-loop
+Inv-loop file h p first t₀ k₀ t k =
+    Summing (idAt (h .inner) file (p .place)) (wordAt (h .inner) file (p .place)) (p .length) t k
+
+abbrev μ-loop : tie.MeasureT-loop
+μ-loop file h p first t₀ k₀ t k = p .length - k
+
+word-at-requires : tie.Need-word-at-requires Inv-loop μ-loop
+word-at-requires c κs =
+    let pre = c .before .pre in
+    (pre .array, pre .some)
+
+returns : tie.Need-returns Inv-loop μ-loop
+unfolding partTotals
+returns c =
+    let args = c .before .before .before .before .args in
+    let pre = c .before .before .before .before .pre in
+    let word-at = c .before .before .word-at in
+    let is-finite = c .before .is-finite in
+    let if1 = c .if1 in
+    sym
+    (summing-not (idAt (args .h .inner) (now (args .file)) (args .p .place)) (wordAt (args .h .inner) (now (args .file)) (args .p .place)) (args .p .length) 0 (pre .some) (sym (ap finite (word-at .ensures)) ∙ sym (is-finite .ensures) ∙ not-true (is-finite .result) (if1 .taken)))
+
+id-at-requires : tie.Need-id-at-requires Inv-loop μ-loop
+id-at-requires c κs =
+    let pre = c .before .before .before .before .pre in
+    (pre .array, pre .some)
+
+start-requires : tie.Need-start-requires Inv-loop μ-loop
+start-requires c κs =
+    let is-finite = c .before .before .is-finite in
+    let if1 = c .before .if1 in
+    sym (is-finite .ensures) ∙ not-false (is-finite .result) (if1 .left)
+
+loop-holds : tie.Need-loop-holds Inv-loop μ-loop
+loop-holds c =
+    let start = c .start in
+    let id-at = c .before .id-at in
+    let word-at = c .before .before .before .before .word-at in
+    let args = c .before .before .before .before .before .before .args in
+    let pre = c .before .before .before .before .before .before .pre in
+    let is-finite = c .before .before .before .is-finite in
+    let if1 = c .before .before .if1 in
+    rw (start .ensures .0, id-at .ensures .0, word-at .ensures)
+    (summing-start (idAt (args .h .inner) (now (args .file)) (args .p .place)) (wordAt (args .h .inner) (now (args .file)) (args .p .place)) (args .p .length) (pre .some) (sym (ap finite (word-at .ensures)) ∙ sym (is-finite .ensures) ∙ not-false (is-finite .result) (if1 .left)))
+
+word-at-requires-2 : tie.Need-word-at-requires-2 Inv-loop μ-loop
+word-at-requires-2 c κs =
+    let pre = c .before .before .before .before .before .before .before .before .before .pre in
+    let if2 = c .if2 in
+    (pre .array, if2 .taken)
+
+returns-2 : tie.Need-returns-2 Inv-loop μ-loop
+unfolding partTotals
+returns-2 c =
+    let args = c .before .before .before .before .before .before .before .before .before .before .before .before .args in
+    let loop = c .before .before .before .before .before .loop in
+    let if2 = c .before .before .before .if2 in
+    let word-at2 = c .before .before .word-at2 in
+    let is-finite2 = c .before .is-finite2 in
+    let if3 = c .if3 in
+    sym
+    (summing-not (idAt (args .h .inner) (now (args .file)) (args .p .place)) (wordAt (args .h .inner) (now (args .file)) (args .p .place)) (args .p .length) (loop .k) (if2 .taken) (sym (ap finite (word-at2 .ensures)) ∙ sym (is-finite2 .ensures) ∙ not-true (is-finite2 .result) (if3 .taken)))
+
+id-at-requires-2 : tie.Need-id-at-requires-2 Inv-loop μ-loop
+id-at-requires-2 c κs =
+    let pre = c .before .before .before .before .before .before .before .before .before .before .before .before .pre in
+    let if2 = c .before .before .before .if2 in
+    (pre .array, if2 .taken)
+
+step-requires : tie.Need-step-requires Inv-loop μ-loop
+step-requires c κs =
+    let is-finite2 = c .before .before .is-finite2 in
+    let if3 = c .before .if3 in
+    let loop = c .before .before .before .before .before .before .loop in
+    (sym (is-finite2 .ensures) ∙ not-false (is-finite2 .result) (if3 .left), loop .inv .good)
+
+loop-again : tie.Need-loop-again Inv-loop μ-loop
+loop-again c =
+    let step = c .step in
+    let id-at2 = c .before .id-at2 in
+    let word-at2 = c .before .before .before .before .word-at2 in
+    let args = c .before .before .before .before .before .before .before .before .before .before .before .before .before .before .args in
+    let loop = c .before .before .before .before .before .before .before .loop in
+    let if2 = c .before .before .before .before .before .if2 in
+    let is-finite2 = c .before .before .before .is-finite2 in
+    let if3 = c .before .before .if3 in
+    rw (step .ensures .0, id-at2 .ensures .0, word-at2 .ensures)
+    (summing-more (idAt (args .h .inner) (now (args .file)) (args .p .place)) (wordAt (args .h .inner) (now (args .file)) (args .p .place)) (args .p .length) (loop .inv) (if2 .taken) (sym (ap finite (word-at2 .ensures)) ∙ sym (is-finite2 .ensures) ∙ not-false (is-finite2 .result) (if3 .left)))
+
+finish-requires : tie.Need-finish-requires Inv-loop μ-loop
+finish-requires c κs =
+    let loop = c .before .before .loop in
+    loop .inv .good
+
+returns-3 : tie.Need-returns-3 Inv-loop μ-loop
+unfolding partTotals
+returns-3 c =
+    let finish = c .finish in
+    let args = c .before .before .before .before .before .before .before .before .before .before .args in
+    let loop = c .before .before .before .loop in
+    let if2 = c .before .if2 in
+    finish .ensures ∙ sym
+    (summing-all (idAt (args .h .inner) (now (args .file)) (args .p .place)) (wordAt (args .h .inner) (now (args .file)) (args .p .place)) (args .p .length) (loop .inv) (if2 .left))
+
+pub part-totals-spec : {M : Type 1} → statement M
+part-totals-spec =
+    tie.close
+    (tie.spec
+    Inv-loop
+    μ-loop
+    word-at-requires
+    (λ c κs. search needs)
+    returns
+    id-at-requires
+    start-requires
+    loop-holds
+    word-at-requires-2
+    (λ c κs. search needs)
+    returns-2
+    id-at-requires-2
+    step-requires
+    (λ c. search needs)
+    (λ c. search needs)
+    loop-again
+    finish-requires
+    returns-3)

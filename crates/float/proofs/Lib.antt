@@ -1,0 +1,3 @@
+pub mod Finite
+pub mod Sums
+pub mod Order

@@ -1,0 +1,35 @@
+-- A lookup as C programs call it: a code, and the value in lent bytes.
+use Prim.Native.Nat.{ℕ}
+use mathlib.Core.Bool.{Bool, true, false}
+use mathlib.Core.List.{List}
+use lib.Dec.{leb}
+use lib.ListN.{length}
+use Rattle.refusal.specs.declared.Refusal.the-variants as No
+use Rattle.refusal.specs.Number.{numberOf}
+use Rattle.layout.specs.Bytes.{bytes}
+use Rattle.buffer.specs.Over.{over}
+use Rattle.block.specs.declared.Lookup.{Lookup}
+use Rattle.block.specs.declared.Lookup.the-variants.{Found, Absent, Refused}
+
+-- 0 found, 100 absent, else the refusal number
+unfoldable pub lookupCode : Lookup → ℕ
+lookupCode (Found bits) = 0
+lookupCode Absent = 100
+lookupCode (Refused r) = numberOf r
+
+-- the value little-endian in the first eight bytes if found; no other byte changes
+unfoldable pub valueIn : List ℕ → Lookup → List ℕ
+valueIn out (Found bits) = over out 0 (bytes 8 bits)
+valueIn out Absent = out
+valueIn out (Refused r) = out
+
+-- 17, first of all, where fewer than eight bytes are lent
+unfoldable pub ifRoom : {A : Type 0} → Bool → A → A → A
+ifRoom true answer refused = answer
+ifRoom false answer refused = refused
+
+unfoldable pub valueCode : (out : List ℕ) → Lookup → ℕ
+valueCode out answer = ifRoom (leb 8 (length out)) (lookupCode answer) (numberOf No.Room)
+
+unfoldable pub valueBytes : (out : List ℕ) → Lookup → List ℕ
+valueBytes out answer = ifRoom (leb 8 (length out)) (valueIn out answer) out

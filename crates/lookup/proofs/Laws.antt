@@ -1,0 +1,73 @@
+-- What a checked block is known to be; the sections of both files as two pairs.
+use Prim.Native.Nat.{ℕ, _^_, _<_}
+use mathlib.Core.Bool.{true, false, _&&_, _||_}
+use mathlib.Core.List.{List, [], _∷_}
+use mathlib.Core.Path.{_≡_, refl, sym, ap, _∙_}
+use native.Mathlib.Omega.{arith}
+use lib.ListN.{length, getD}
+use Rattle.refusal.specs.declared.Refusal.{Refusal}
+use Rattle.refusal.specs.declared.Check.{Check}
+use Rattle.refusal.specs.declared.Check.the-variants as Check
+use Rattle.refusal.specs.Check.{ifPassed}
+use Rattle.open.specs.Format as Format
+use Rattle.open.specs.Opening.{pairAt, pairsFrom, pairs, placeIn}
+use Rattle.open.specs.Kept.{Sections}
+use Rattle.array.specs.declared.Element.{Element}
+use Rattle.array.specs.declared.Element.the-variants as Element
+use Rattle.array.specs.Element.{elementAt, onElement, Bounded}
+use Rattle.array.specs.Stored.{infosArray}
+use Rattle.array.proofs.Bounds.{bounded}
+use Rattle.block.specs.declared.Shape.{Shape}
+use Rattle.block.specs.declared.Block.{Block}
+use Rattle.block.specs.declared.Lookup.{Lookup}
+use Rattle.block.specs.Block as B
+use Rattle.block.proofs.Ranges.{valid}
+use Rattle.lookup.specs.declared.Checked.{Checked}
+use Rattle.lookup.specs.declared.Checked.the-variants.{Valid, Refused}
+use Rattle.lookup.specs.Lookup.{checkedBlock, checkedAt, onChecked, lookupAt}
+
+block-of : Checked → Block → Block
+block-of (Valid b) other = b
+block-of (Refused r) other = other
+
+tag : Checked → ℕ
+tag (Valid b) = 1
+tag (Refused r) = 0
+
+module _ (file : List ℕ) (h : Shape) (sections : List (List ℕ)) (w : B.Widths h) (b : Block) where
+  passed-valid : (a : Block) (c : Check) → B.blockCheck file h sections a ≡ c → ifPassed Refused c (Valid a) ≡ Valid b → B.Valid file h b
+  unfolding ifPassed block-of tag
+  passed-valid a Check.Passed e f = rw (ap (λ (x : Checked). block-of x a) f) at (valid file h sections a w e)
+  passed-valid a (Check.Refused r) e f = absurd (omega (arith, ap tag f))
+
+  element-valid : (e : Element) → onElement Refused e (λ at. checkedBlock file h sections (B.blockAt file h at)) ≡ Valid b → B.Valid file h b
+  unfolding onElement checkedBlock tag
+  element-valid (Element.At at) f =
+      passed-valid (B.blockAt file h at) (B.blockCheck file h sections (B.blockAt file h at)) refl f
+  element-valid (Element.Refused r) f = absurd (omega (arith, ap tag f))
+
+  pub checked-valid : (i : ℕ) → checkedAt file h sections i ≡ Valid b → B.Valid file h b
+  unfolding checkedAt
+  checked-valid i f = element-valid (elementAt (infosArray file (placeIn sections 0)) i) f
+
+-- the two sections of profile.db
+pub two-sections : (file : List ℕ) (ps : List (List ℕ)) → ps ≡ pairs Format.profile file → (getD ps 0 [] ∷ getD ps 1 [] ∷ []) ≡ ps
+unfolding pairs pairsFrom
+two-sections file ps e = rw e
+
+-- the one of cct.db, beside which one of size 0 counts for nothing
+pub one-section : (file : List ℕ) (h : Shape) (p : List ℕ) (i : ℕ) → checkedAt file h (p ∷ (0 ∷ 0 ∷ []) ∷ []) i ≡ checkedAt file h (p ∷ []) i
+unfolding checkedAt checkedBlock B.blockCheck B.rangeRule B.lies B.apartAll B.apart
+one-section file h p i = refl
+
+pub one-lookup : (file : List ℕ) (h : Shape) (p : List ℕ) (i outer inner : ℕ)
+    → lookupAt file h (p ∷ (0 ∷ 0 ∷ []) ∷ []) i outer inner ≡ lookupAt file h (p ∷ []) i outer inner
+unfolding lookupAt
+one-lookup file h p i outer inner = rw (one-section file h p i)
+
+pub cct-pairs : (file : List ℕ) (ps : List (List ℕ)) → ps ≡ pairAt file 16 ∷ [] → ps ≡ pairs Format.cct file
+unfolding pairs pairsFrom
+cct-pairs file ps e = e
+
+pub lone-section : (file : List ℕ) (ps : List (List ℕ)) → ps ≡ pairAt file 16 ∷ [] → (getD ps 0 [] ∷ []) ≡ ps
+lone-section file ps e = rw e

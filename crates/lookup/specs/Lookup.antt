@@ -1,0 +1,55 @@
+-- Lookups in profile.db and cct.db. The block of element i is checked, and then asked for an outer and an inner id.
+use Prim.Native.Nat.{ℕ}
+use mathlib.Core.List.{List, [], _∷_}
+use Rattle.refusal.specs.declared.Refusal.{Refusal}
+use Rattle.refusal.specs.declared.Refusal.the-variants as No
+use Rattle.refusal.specs.Check.{ifPassed}
+use Rattle.refusal.specs.Number.{numberOf}
+use Rattle.open.specs.Format as Format
+use Rattle.open.specs.Opening.{placeIn, pairs, opening}
+use Rattle.array.specs.declared.Element.{Element}
+use Rattle.array.specs.declared.Element.the-variants as Element
+use Rattle.array.specs.Element.{elementAt, onElement}
+use Rattle.array.specs.Stored.{infosArray}
+use Rattle.block.specs.declared.Shape.{Shape}
+use Rattle.block.specs.declared.Block.{Block}
+use Rattle.block.specs.declared.Lookup.{Lookup}
+use Rattle.block.specs.declared.Lookup.the-variants as Lookup
+use Rattle.block.specs.Block.{profileShape, cctShape, blockAt, blockCheck, lookupIn}
+use Rattle.lookup.specs.declared.Checked.{Checked}
+use Rattle.lookup.specs.declared.Checked.the-variants.{Valid, Refused}
+
+-- the block of element i: 15 where there is none, before the block is read; then the block's own rules
+unfoldable pub checkedBlock : List ℕ → Shape → (sections : List (List ℕ)) → Block → Checked
+checkedBlock file h sections b = ifPassed Refused (blockCheck file h sections b) (Valid b)
+
+unfoldable pub checkedAt : List ℕ → Shape → (sections : List (List ℕ)) → (i : ℕ) → Checked
+checkedAt file h sections i =
+    onElement Refused (elementAt (infosArray file (placeIn sections 0)) i) (λ at. checkedBlock file h sections (blockAt file h at))
+
+-- what an element that is not there says of its block
+unfoldable pub refusedBy : Element → Checked
+refusedBy (Element.At place) = Refused No.Index
+refusedBy (Element.Refused r) = Refused r
+
+-- what is answered of a checked block, or the refusal
+unfoldable pub onChecked : {A : Type 0} → (Refusal → A) → Checked → (Block → A) → A
+onChecked refused (Valid b) answer = answer b
+onChecked refused (Refused r) answer = refused r
+
+unfoldable pub checkedWords : Checked → List ℕ
+checkedWords (Valid b) = 0 ∷ b .total ∷ b .values ∷ b .count ∷ b .indices ∷ []
+checkedWords (Refused r) = numberOf r ∷ []
+
+unfoldable pub lookupAt : List ℕ → Shape → (sections : List (List ℕ)) → (i outer inner : ℕ) → Lookup
+lookupAt file h sections i outer inner = onChecked Lookup.Refused (checkedAt file h sections i) (λ b. lookupIn file h b outer inner)
+
+-- in profile.db the element is a profile, its outer ids are contexts and its inner ids metrics
+unfoldable pub profileLookup : List ℕ → (profile context metric : ℕ) → Lookup
+profileLookup file profile context metric =
+    ifPassed Lookup.Refused (opening Format.profile file) (lookupAt file profileShape (pairs Format.profile file) profile context metric)
+
+-- in cct.db it is a context, with metrics and profiles
+unfoldable pub cctLookup : List ℕ → (profile context metric : ℕ) → Lookup
+cctLookup file profile context metric =
+    ifPassed Lookup.Refused (opening Format.cct file) (lookupAt file cctShape (pairs Format.cct file) context metric profile)

@@ -1,0 +1,103 @@
+// Lookups in profile.db and cct.db.
+ghost use mathlib.Core.List.{[], _∷_};
+ghost use mathlib.Core.Path.{_≡_};
+ghost use lib.ListN.{getD};
+ghost use Rattle.array.specs.Element.{Bounded};
+ghost use Rattle.array.specs.Stored.{infosArray};
+ghost use Rattle.block.specs.Block.{blockAt, Widths};
+ghost use Rattle.lookup.specs.Lookup.{checkedBlock, checkedAt, lookupAt, profileLookup, cctLookup, refusedBy};
+use array::Element;
+use block::Lookup;
+use block::Shape;
+use refusal::Check;
+use refusal::Refusal;
+
+// A block that keeps the rules, by value, or the refusal.
+pub enum Checked {
+    Valid(block::Block),
+    Refused(refusal::Refusal),
+}
+
+fn refused(element: Element) -> Checked
+    ensures { λ r. ⌜ r ≡ refusedBy element ⌝ }
+{
+    match element {
+        Element::At(_) => Checked::Refused(Refusal::Index),
+        Element::Refused(r) => Checked::Refused(r),
+    }
+}
+
+fn checked_block(file: &[u8], h: Shape, one: [u64; 2], other: [u64; 2], at: u64) -> Checked
+    requires { ⌜ Widths h ⌝ }
+    ensures { λ r. ⌜ r ≡ checkedBlock (now (file .entry)) h (one ∷ other ∷ []) (blockAt (now (file .entry)) h at) ⌝ }
+{
+    let b = block::block_at(file, h, at);
+    let check = block::check(file, h, one, other, b);
+    match check {
+        Check::Passed => Checked::Valid(b),
+        Check::Refused(r) => Checked::Refused(r),
+    }
+}
+
+// The block of element i of the array in the first of two sections; the other may have size 0.
+pub fn checked_at(file: &[u8], h: Shape, one: [u64; 2], other: [u64; 2], i: u64) -> Checked
+    requires { ⌜ Widths h ⌝ }
+    requires { ⌜ Bounded (infosArray (now file) (getD one 0 0)) ⌝ }
+    ensures { λ r. ⌜ r ≡ checkedAt (now (file .entry)) h (one ∷ other ∷ []) i ⌝ }
+{
+    let infos = array::of_infos(file, one[0]);
+    let element = array::nth(infos, i);
+    let Element::At(at) = element else {
+        return refused(element);
+    };
+    checked_block(file, h, one, other, at)
+}
+
+fn lookup_at(
+    file: &[u8],
+    h: Shape,
+    one: [u64; 2],
+    other: [u64; 2],
+    i: u64,
+    outer: u64,
+    inner: u64,
+) -> Lookup
+    requires { ⌜ Widths h ⌝ }
+    requires { ⌜ Bounded (infosArray (now file) (getD one 0 0)) ⌝ }
+    ensures { λ r. ⌜ r ≡ lookupAt (now (file .entry)) h (one ∷ other ∷ []) i outer inner ⌝ }
+{
+    let checked = checked_at(file, h, one, other, i);
+    match checked {
+        Checked::Valid(b) => block::find(file, h, b, outer, inner),
+        Checked::Refused(r) => Lookup::Refused(r),
+    }
+}
+
+// The value of a metric in a context of a profile.
+pub fn profile_lookup(file: &[u8], profile: u64, context: u64, metric: u64) -> Lookup
+    ensures { λ r. ⌜ r ≡ profileLookup (now (file .entry)) profile context metric ⌝ }
+{
+    let sections = open::profile_sections(file);
+    let check = open::check_profile(file, sections);
+    match check {
+        Check::Passed => {
+            let h = block::profile_shape();
+            lookup_at(file, h, sections[0], sections[1], profile, context, metric)
+        }
+        Check::Refused(r) => Lookup::Refused(r),
+    }
+}
+
+pub fn cct_lookup(file: &[u8], profile: u64, context: u64, metric: u64) -> Lookup
+    ensures { λ r. ⌜ r ≡ cctLookup (now (file .entry)) profile context metric ⌝ }
+{
+    let sections = open::single_section(file);
+    let check = open::check_cct(file, sections);
+    match check {
+        Check::Passed => {
+            let h = block::cct_shape();
+            lookup_at(file, h, sections[0], [0; 2], context, metric, profile)
+        }
+        Check::Refused(r) => Lookup::Refused(r),
+    }
+}

@@ -1,0 +1,92 @@
+-- The loop that tests whether a sequence rises; a strictly rising sequence is sorted, and the other way round.
+use Prim.Native.Nat.{ℕ, zero, suc, _+_, _≤_, _<_}
+use mathlib.Core.Bool.{Bool, true, false}
+use mathlib.Core.Logic.{_⊎_, inl, inr}
+use mathlib.Core.Path.{_≡_, refl, sym, ap, _∙_}
+use native.Mathlib.Nat.{eq-or-lt-of-le, le-of-suc-le-suc, not-suc-le-zero}
+use native.Mathlib.Numerals.{add-one}
+use native.Mathlib.Omega.{arith}
+use borrow.Author.Tests.{le-leb, lt-leb, leb-true}
+use lib.Dec.{leb}
+use Rattle.seq.specs.Sequence.{every, floor, rises, Sorted}
+use Rattle.seq.proofs.Every.{every-none, every-more, every-at, every-of, every-not}
+
+module _ (least gap : ℕ) (f : ℕ → ℕ) where
+  abbrev test : ℕ → Bool
+  test k = leb (floor least gap f k) (f k)
+
+  floor-first : floor least gap f 0 ≡ least
+  unfolding floor
+  floor-first = refl
+
+  floor-next : (k : ℕ) → floor least gap f (suc k) ≡ f k + gap
+  unfolding floor
+  floor-next k = refl
+
+  pub rises-none : rises least gap f 0 ≡ true
+  unfolding rises
+  rises-none = every-none test
+
+  pub rises-at : (n : ℕ) → rises least gap f n ≡ true → (k : ℕ) → k < n → floor least gap f k ≤ f k
+  unfolding rises
+  rises-at n h k l = leb-true (floor least gap f k) (f k) (every-at test n h k l)
+
+  pub rises-first : (n : ℕ) → rises least gap f n ≡ true → 0 < n → least ≤ f 0
+  rises-first n h l = rw floor-first at (rises-at n h 0 l)
+
+  pub rises-next : (n : ℕ) → rises least gap f n ≡ true → (k : ℕ) → suc k < n → f k + gap ≤ f (suc k)
+  rises-next n h k l = rw (floor-next k) at (rises-at n h (suc k) l)
+
+  pub rises-of : (n : ℕ) → (0 < n → least ≤ f 0) → ((k : ℕ) → suc k < n → f k + gap ≤ f (suc k)) → rises least gap f n ≡ true
+  unfolding rises
+  rises-of n first next = every-of test n at
+    where
+      at : (k : ℕ) → k < n → test k ≡ true
+      at zero l = le-leb (floor least gap f 0) (f 0) (rw floor-first (first l))
+      at (suc k) l = le-leb (floor least gap f (suc k)) (f (suc k)) (rw (floor-next k) (next k l))
+
+-- the loop: k passed, all of them right, and the next is to be at least `low`
+pub record Rising (least gap : ℕ) (f : ℕ → ℕ) (n low k : ℕ) : Type 0 where
+  pub within : k ≤ n
+  pub low-is : low ≡ floor least gap f k
+  pub so-far : rises least gap f k ≡ true
+
+pub rising-start : (least gap : ℕ) (f : ℕ → ℕ) (n : ℕ) → Rising least gap f n least 0
+unfolding floor
+rising-start least gap f n = record { within = omega arith; low-is = refl; so-far = rises-none least gap f }
+
+module _ {least gap : ℕ} {f : ℕ → ℕ} {n low k : ℕ} (r : Rising least gap f n low k) where
+  pub rising-not : k < n → f k < low → rises least gap f n ≡ false
+  unfolding rises
+  rising-not l h = every-not (test least gap f) n k l (lt-leb _ _ (rw (r .low-is) at h))
+
+  pub rising-more : k < n → low ≤ f k → Rising least gap f n (f k + gap) (k + 1)
+  unfolding rises floor
+  rising-more l h = record {
+    within = omega arith;
+    low-is = rw (add-one k);
+    so-far = every-more (test least gap f) k (r .so-far) (le-leb _ _ (rw (r .low-is) at h));
+  }
+
+  pub rising-all : n ≤ k → rises least gap f n ≡ true
+  rising-all h = let e : n ≡ k = omega (arith, r .within) in rw e (r .so-far)
+
+-- ---- with a gap of 1
+
+pub next-sorted : (f : ℕ → ℕ) (n : ℕ) → ((k : ℕ) → suc k < n → f k < f (suc k)) → Sorted f n
+next-sorted f n h p zero l m = absurd (not-suc-le-zero l)
+next-sorted f n h p (suc q) l m = last (eq-or-lt-of-le (le-of-suc-le-suc l)) (h q m) (next-sorted f n h p q)
+  where
+    last : (p ≡ q) ⊎ (p < q) → f q < f (suc q) → (p < q → q < n → f p < f q) → f p < f (suc q)
+    last (inl e) s r = rw e s
+    last (inr k) s r = omega (arith, r k (omega arith))
+
+pub rises-sorted : (least : ℕ) (f : ℕ → ℕ) (n : ℕ) → rises least 1 f n ≡ true → Sorted f n
+rises-sorted least f n h = next-sorted f n (λ k l. omega (arith, rises-next least 1 f n h k l))
+
+pub sorted-rises : (least : ℕ) (f : ℕ → ℕ) (n : ℕ) → Sorted f n → (0 < n → least ≤ f 0) → rises least 1 f n ≡ true
+sorted-rises least f n s m = rises-of least 1 f n m (λ k l. omega (arith, s k (suc k) (omega arith) l))
+
+pub all-least : (least : ℕ) (f : ℕ → ℕ) (n : ℕ) → rises least 1 f n ≡ true → (k : ℕ) → k < n → least ≤ f k
+all-least least f n h zero l = rises-first least 1 f n h l
+all-least least f n h (suc k) l = omega (arith, all-least least f n h k (omega arith), rises-next least 1 f n h k l)

@@ -1,0 +1,33 @@
+-- Sequences of numbers: f 0, .., f (n - 1).
+use Prim.Native.Nat.{ℕ, zero, suc, _+_, _<_}
+use mathlib.Core.Bool.{Bool, true, false, _&&_}
+use lib.Dec.{leb, eqb}
+use Rattle.seq.specs.declared.Position.{Position}
+use Rattle.seq.specs.declared.Position.the-variants.{At, Nowhere}
+
+-- a test holds of every number below n
+unfoldable pub every : (ℕ → Bool) → (n : ℕ) → Bool
+every test zero = true
+every test (suc n) = every test n && test n
+
+-- the least that f k may be: `least` at first, and then `gap` more than the one before it
+unfoldable pub floor : (least gap : ℕ) → (ℕ → ℕ) → (k : ℕ) → ℕ
+floor least gap f zero = least
+floor least gap f (suc k) = f k + gap
+
+-- with a gap of 1 they increase strictly; with 0 they do not fall
+unfoldable pub rises : (least gap : ℕ) → (ℕ → ℕ) → (n : ℕ) → Bool
+rises least gap f n = every (λ k. leb (floor least gap f k) (f k)) n
+
+-- where a key is among them
+unfoldable pub hereOr : Bool → (k : ℕ) → Position → Position
+hereOr true k elsewhere = At k
+hereOr false k elsewhere = elsewhere
+
+unfoldable pub position : (ℕ → ℕ) → (key n : ℕ) → Position
+position f key zero = Nowhere
+position f key (suc n) = hereOr (eqb (f n) key) n (position f key n)
+
+-- they increase strictly, as a fact
+abbrev pub Sorted : (ℕ → ℕ) → (n : ℕ) → Type 0
+Sorted f n = (p q : ℕ) → p < q → q < n → f p < f q

@@ -1,0 +1,4 @@
+pub mod Tallies
+pub mod Loop
+pub mod Firsts
+pub mod Cases
