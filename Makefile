@@ -8,7 +8,8 @@ test:
 	bash .ci/run
 
 check:
-	@rt staticlib hpcdb >/dev/null
+	@mkdir -p target
+	@rt staticlib hpcdb >target/staticlib.log 2>&1 || { tail -20 target/staticlib.log; exit 1; }
 	@gcc -std=c99 -O2 -Wall -Wextra -Wpedantic -Werror -o target/lookup tests/lookup.c target/staticlib/libhpcdb.a
 	@target/lookup
 
