@@ -1,12 +1,12 @@
 -- What the range rule gives: room for both arrays; and a block that passed its check is valid.
 use Prim.Native.Nat.{ℕ, _+_, _-_, _*_, _≤_, _<_}
 use mathlib.Core.Bool.{Bool, true, false, _&&_, _||_}
-use mathlib.Core.List.{List, [], _∷_}
+use mathlib.Core.List.{List}
 use mathlib.Core.Path.{_≡_, refl, sym, ap, _∙_}
 use native.Mathlib.Omega.{arith}
 use borrow.Author.Tests.{leb-true, eq-eqb, ne-eqb}
 use lib.Dec.{leb, eqb}
-use lib.ListN.{length, getD}
+use lib.ListN.{length}
 use Rattle.range.specs.Range.{within, multiple}
 use Rattle.range.proofs.Tests.{both, within-iff}
 use Rattle.refusal.specs.declared.Refusal.the-variants as No
@@ -15,7 +15,7 @@ use Rattle.refusal.specs.Check.{rule, first}
 use Rattle.refusal.proofs.Checks.{rule-passes, first-passes}
 use Rattle.block.specs.declared.Shape.{Shape}
 use Rattle.block.specs.declared.Block.{Block}
-use Rattle.block.specs.Block.{apart, apartAll, lies, rangeRule, orderRule, ifNone, blockCheck, Widths, Room, Valid}
+use Rattle.block.specs.Block.{apartAll, lies, rangeRule, orderRule, ifNone, blockCheck, Widths, Room, Valid}
 
 pub and-true : (a : Bool) → (a && true) ≡ a
 and-true true = refl
@@ -68,8 +68,3 @@ module _ (file : List ℕ) (h : Shape) (sections : List (List ℕ)) (b : Block) 
       passes : 0 < b .count → (rule (rangeRule file h sections b) No.Array ≡ Check.Passed) × (rule (orderRule file h b) No.Order ≡ Check.Passed)
       passes z = first-passes (rule (rangeRule file h sections b) No.Array) (rule (orderRule file h b) No.Order) .0
           (sym (some-check (λ n. omega arith)) ∙ e)
-
--- a second section of size 0 counts for nothing
-pub one-section : (at n : ℕ) (p : List ℕ) → apartAll at n (p ∷ (0 ∷ 0 ∷ []) ∷ []) ≡ apartAll at n (p ∷ [])
-unfolding apartAll apart
-one-section at n p = refl

@@ -10,6 +10,9 @@ use array::Array;
 use refusal::Check;
 use refusal::Refusal;
 
+// How many words a record has.
+pub const RECORD: usize = 11;
+
 // What the pointers of contexts may lead to, in words: place and size of the Context section; place, count and stride of the
 // functions, files and modules.
 pub fn targets_of(file: &[u8], sections: [[u64; 2]; 8]) -> [u64; 11]
@@ -136,7 +139,7 @@ pub fn pointer_check(file: &[u8], t: &[u64; 11], p: usize) -> Check
 }
 
 // What is handed out of a context, with its depth.
-pub fn entry_words(file: &[u8], p: usize, depth: u64) -> [u64; 11]
+pub fn entry_words(file: &[u8], p: usize, depth: u64) -> [u64; RECORD]
     requires { ⌜ Readable (now file) p ⌝ }
     ensures { λ r. ⌜ WordsOf (now (file .entry)) p depth r ⌝ }
 {

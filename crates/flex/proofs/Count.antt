@@ -86,6 +86,3 @@ stands-inside flags (suc j) (b ∷ l) h k = one-more-mono (bit flags b) _ _ (sta
 pub inside : (flags j : ℕ) → j < 5 → bit flags (getD packing j 0) ≡ true → before flags j < words flags
 unfolding before words
 inside flags j h k = stands-inside flags j packing h k
-
-pub words-few : (flags : ℕ) → words flags ≤ 5
-words-few flags = omega (arith, all flags)

@@ -2,7 +2,7 @@
 fn list(file: &[u8]) {
     let mut listing = [0u64; 1024];
     let mut table = [0u64; 1024];
-    let mut records = [0u64; 11264];
+    let mut records = [0u64; 1024 * context::RECORD];
     report::show(file, &mut listing, &mut table, &mut records);
 }
 

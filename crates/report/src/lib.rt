@@ -5,14 +5,12 @@ ghost use lib.Dec.{ltb};
 ghost use lib.ListN.{length};
 ghost use Rattle.traversal.specs.Traversal.{listOf};
 ghost use Rattle.traversal.specs.Walk.{walkWith, walkedOf, numberListed, listingWith, recordsWith, tableAfter};
+use context::RECORD;
 use libc::STDOUT_FILENO;
 use traversal::Walked;
 
 // The longest file that the listing program takes.
 const LONGEST: usize = 32768;
-
-// Words of a record.
-const RECORD: usize = 11;
 
 pub fn number(n: u64) {
     io::print_decimal(STDOUT_FILENO, n);

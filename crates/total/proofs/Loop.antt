@@ -64,10 +64,6 @@ module _ (ids bits : ℕ → ℕ) (n : ℕ) where
         good = good-step t (ids k) (bits k) (s .good) h;
       }
 
-  pub summing-none : n ≡ 0 → totalsOf ids bits n ≡ Absent
-  unfolding totalsOf
-  summing-none e = rw e
-
   pub summing-not : (k : ℕ) → k < n → finite (bits k) ≡ false → totalsOf ids bits n ≡ Refused No.NotFinite
   unfolding totalsIf
   summing-not k l h = totals-of ids bits n (omega arith) ∙ rw (not-finite bits n k l h)

@@ -11,14 +11,12 @@ ghost use Rattle.context.specs.Context.{ctxId, contextRule, pointerCheck, targe
 ghost use Rattle.traversal.specs.Traversal.{slotCheck, depthLimit, listOf};
 ghost use Rattle.traversal.specs.Walk.{walkWith, walkedOf, listingWith, recordsWith, tableAfter};
 ghost use Rattle.walk.specs.State.{taken, slices, ArrayDoes, ContextDoes, RecordPut};
+use context::RECORD;
 use refusal::Check;
 use refusal::Refusal;
 use traversal::Walked;
 
 const DEPTH_LIMIT: u64 = 200;
-
-// Words of a record.
-const RECORD: usize = 11;
 
 // 12, 13, 14.
 fn slot_check(table: &[u64], depth: u64, id: usize) -> Check

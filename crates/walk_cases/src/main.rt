@@ -1,9 +1,8 @@
 // Walks each meta.db that a line of `list` names, with a listing and a table of as many words as the line says, and prints what the
 // listing program prints, the flex fields of the listed contexts that have some, and the table's slots that are not 0.
 ghost use Prim.Native.Nat.{_≤_};
+use context::RECORD;
 use libc::STDOUT_FILENO;
-
-const RECORD: usize = 11;
 
 // What the table holds before a walk.
 const BEFORE: u64 = 7;
@@ -93,7 +92,7 @@ fn slots(file: &[u8], table: &[u64]) {
 }
 
 fn walked(file: &[u8], listing: &mut [u64], table: &mut [u64]) {
-    let mut records = [BEFORE; 11264];
+    let mut records = [BEFORE; 1024 * RECORD];
     let n = report::show(file, listing, table, &mut records);
     each_flex(&records, n);
     slots(file, table);
