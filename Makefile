@@ -18,3 +18,4 @@ cases:
 	python3 tools/meta_cases.py
 	python3 tools/walk_cases.py
 	python3 tools/block_cases.py
+	python3 tools/record_cases.py

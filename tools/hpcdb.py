@@ -127,8 +127,8 @@ class Refused(Exception):
     pass
 
 
-def sections_of(file):
-    n, pairs = opening("meta", file)
+def sections_of(file, kind="meta"):
+    n, pairs = opening(kind, file)
     if n:
         raise Refused(n)
     return pairs
@@ -311,13 +311,17 @@ def rising(numbers):
     return all(a < b for a, b in zip(numbers, numbers[1:]))
 
 
+def elements_of(kind, file):
+    """The sections, and (place, count, stride) of the array in the first of them; not for meta.db."""
+    sections = sections_of(file, kind)
+    info = sections[0][0]
+    return sections, (number(file, info, 8), number(file, info + 8, 4), number(file, info + 12, 1))
+
+
 def block(kind, file, i):
     """The sub-arrays of block i by their index's id, each a list of (id, bits)."""
-    refusal, sections = opening(kind, file)
-    if refusal:
-        raise Refused(refusal)
-    info = sections[0][0]
-    at = nth((number(file, info, 8), number(file, info + 8, 4), number(file, info + 12, 1)), i)
+    sections, elements = elements_of(kind, file)
+    at = nth(elements, i)
     outer, inner, least = BLOCKS[kind]
     amount, count = number(file, at, 8), number(file, at + 16, outer)
     values, indices = (number(file, at + 8, 8), amount * (inner + 8)), (number(file, at + 24, 8), count * (outer + 8))
@@ -381,3 +385,87 @@ def cct_totals(file, context, metric):
         high = k if numbers[k] > numbers[high] else high
         total = total + numbers[k]
     return ("totals", len(sub)) + sub[low] + sub[high] + (bits_of(total),)
+
+
+# ---- counts, tuples and trace lines. Answers are a word and its numbers, ("absent",) or ("refused", number)
+def told(read):
+    """The same reader, with a refusal as an answer"""
+    def telling(*asked):
+        try:
+            return read(*asked)
+        except Refused as r:
+            return "refused", r.args[0]
+    return telling
+
+
+@told
+def profile_count(file):
+    return "count", elements_of("profile", file)[1][1]
+
+
+@told
+def cct_count(file):
+    return "count", elements_of("cct", file)[1][1]
+
+
+@told
+def trace_count(file):
+    return "count", elements_of("trace", file)[1][1]
+
+
+def identifications(file, p):
+    """(place, count, stride) of those in profile p's tuple"""
+    sections, profiles = elements_of("profile", file)
+    at = number(file, nth(profiles, p) + 32, 8)
+    start, end = sections[1][0], sum(sections[1])
+    if at % 8 or at < start or at + 8 > end or at + 8 + 16 * number(file, at, 2) > end:
+        raise Refused(7)
+    return at + 8, number(file, at, 2), 16
+
+
+@told
+def tuple_of(file, p):
+    return "tuple", identifications(file, p)[1]
+
+
+@told
+def identifier(file, p, k):
+    """Kind, all 16 flags, logicalId, physicalId"""
+    return ("identifier",) + struct.unpack_from("<BxHIQ", file, nth(identifications(file, p), k))
+
+
+def samples_of(file, i):
+    """profIdx of line i, and its samples: (timestamp, ctxId)"""
+    sections, headers = elements_of("trace", file)
+    profile, start, end = struct.unpack_from("<I4xQQ", file, nth(headers, i))
+    if start % 8 or end % 4 or start > end or (end - start) % 12:
+        raise Refused(7)
+    if start < HEADER["trace"] or end > len(file) - 8 or in_common((start, end - start), sections[0]):
+        raise Refused(7)
+    samples = list(struct.iter_unpack("<QI", file[start:end]))
+    if not rising([time for time, _ in samples]):
+        raise Refused(11)
+    return profile, samples
+
+
+@told
+def trace_line(file, i):
+    """profIdx, and the number of samples"""
+    profile, samples = samples_of(file, i)
+    return "line", profile, len(samples)
+
+
+@told
+def trace_sample(file, i, k):
+    samples = samples_of(file, i)[1]
+    return ("sample", k) + samples[nth((0, len(samples), 1), k)]
+
+
+@told
+def trace_at(file, i, t):
+    """The last sample not later than t"""
+    found = ("absent",)
+    for k, sample in enumerate(samples_of(file, i)[1]):
+        if sample[0] <= t:
+            found = ("sample", k) + sample
+    return found

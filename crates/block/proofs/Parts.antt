@@ -10,11 +10,14 @@ use borrow.Author.Tests.{le-leb, lt-leb, le-ltb, lt-ltb, eq-eqb, ne-eqb}
 use lib.Dec.{leb, ltb, eqb}
 use lib.ListN.{length}
 use Rattle.seq.specs.Sequence.{every, rises, Sorted}
+use Rattle.seq.specs.declared.Position.{Position}
+use Rattle.seq.specs.declared.Position.the-variants.{At}
+use Rattle.seq.proofs.Search.{position-below}
 use Rattle.seq.proofs.Every.{and-false, every-at, every-not}
 use Rattle.seq.proofs.Rising.{rises-sorted}
 use Rattle.block.specs.declared.Shape.{Shape}
 use Rattle.block.specs.declared.Block.{Block}
-use Rattle.block.specs.Block.{idAt, startOf, endOf, partOf, outerIds, innerIds, orderRule, IdWidth, Array, Room, Valid, SubArray}
+use Rattle.block.specs.Block.{idAt, startOf, endOf, partOf, outerIds, innerIds, orderRule, indexOf, IdWidth, Array, Room, Valid, SubArray}
 use Rattle.block.specs.OnePass.{partRule, onePass}
 use Rattle.block.proofs.Order.{pass-parts, pass-is-order, order-facts}
 
@@ -80,6 +83,11 @@ pub record Within (file : List ℕ) (h : Shape) (b : Block) (start end : ℕ) : 
 module _ {file : List ℕ} {h : Shape} {b : Block} (v : Valid file h b) where
   pub outer-sorted : 0 < b .count → Sorted (outerIds file h b) (b .count)
   outer-sorted l = order-facts file h b (v .order l) .outer-increase
+
+  -- an index that is found is there
+  pub index-below : (outer i : ℕ) {p : Position} → p ≡ indexOf file h b outer → p ≡ At i → i < b .count
+  unfolding indexOf
+  index-below outer i e f = position-below (outerIds file h b) outer (b .count) i (sym e ∙ f)
 
   pub part-of : (i start end : ℕ) → i < b .count → start ≡ startOf file h b i → end ≡ endOf file h b i → Within file h b start end
   unfolding partOf

@@ -7,26 +7,19 @@ use native.Mathlib.Omega.{arith}
 use borrow.Author.Tests.{leb-true, eq-eqb, ne-eqb}
 use lib.Dec.{leb, eqb}
 use lib.ListN.{length}
-use Rattle.range.specs.Range.{within, multiple}
-use Rattle.range.proofs.Tests.{both, within-iff}
+use Rattle.range.specs.Range.{multiple}
+use Rattle.range.proofs.Tests.{both}
+use Rattle.outside.specs.Outside.{lies}
+use Rattle.outside.proofs.Apart.{lies-ends}
 use Rattle.refusal.specs.declared.Refusal.the-variants as No
 use Rattle.refusal.specs.declared.Check.the-variants as Check
-use Rattle.refusal.specs.Check.{rule, first}
+use Rattle.refusal.specs.Check.{either, rule, first}
 use Rattle.refusal.proofs.Checks.{rule-passes, first-passes}
 use Rattle.block.specs.declared.Shape.{Shape}
 use Rattle.block.specs.declared.Block.{Block}
-use Rattle.block.specs.Block.{apartAll, lies, rangeRule, orderRule, ifNone, blockCheck, Widths, Room, Valid}
-
-pub and-true : (a : Bool) → (a && true) ≡ a
-and-true true = refl
-and-true false = refl
+use Rattle.block.specs.Block.{rangeRule, orderRule, blockCheck, Widths, Room, Valid}
 
 module _ (file : List ℕ) (h : Shape) (sections : List (List ℕ)) (b : Block) where
-  lies-ends : (header at n : ℕ) → lies file header sections at n ≡ true → at + n ≤ length file
-  unfolding lies
-  lies-ends header at n e =
-      omega (arith, within-iff header (length file - 8) at n .0 (both (within header (length file - 8) at n) (apartAll at n sections) .0 e .0) .1)
-
   pub room-of : rangeRule file h sections b ≡ true → Widths h → 0 < b .count → Room file h b
   unfolding rangeRule
   room-of e w z =
@@ -36,19 +29,19 @@ module _ (file : List ℕ) (h : Shape) (sections : List (List ℕ)) (b : Block) 
       _ .0 (p .1) in
       let r = both (lies file (h .header) sections (b .values) (b .total * (h .inner + 8))) _ .0 (q .0) in
       record {
-        indices = record { width = w .0; room = lies-ends (h .header) (b .indices) (b .count * (h .outer + 8)) (r .1) };
-        values = record { width = w .1; room = lies-ends (h .header) (b .values) (b .total * (h .inner + 8)) (r .0) };
+        indices = record { width = w .0; room = lies-ends file sections (h .header) (b .indices) (b .count * (h .outer + 8)) (r .1) };
+        values = record { width = w .1; room = lies-ends file sections (h .header) (b .values) (b .total * (h .inner + 8)) (r .0) };
         some-index = z;
       }
 
   -- by the number of indices
   pub none-check : b .count ≡ 0 → rule (eqb (b .total) 0) No.Array ≡ blockCheck file h sections b
-  unfolding blockCheck ifNone
+  unfolding blockCheck either
   none-check z = rw (eq-eqb (b .count) 0 z)
 
   some-check : (b .count ≡ 0 → ⊥)
       → blockCheck file h sections b ≡ first (rule (rangeRule file h sections b) No.Array) (rule (orderRule file h b) No.Order)
-  unfolding blockCheck ifNone
+  unfolding blockCheck either
   some-check z = rw (ne-eqb (b .count) 0 z)
 
   pub range-check : (b .count ≡ 0 → ⊥) → rangeRule file h sections b ≡ false → Check.Refused No.Array ≡ blockCheck file h sections b

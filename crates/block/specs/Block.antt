@@ -1,18 +1,19 @@
 -- Sparse blocks: document 01's "Sparse blocks and totals", once over the widths of their ids. An element of either array is an id of
 -- w bytes and then a word of eight: an index has an outer id and a start, a value an inner id and the bits of an f64.
 use Prim.Native.Nat.{ℕ, _+_, _-_, _*_, _≤_, _<_}
-use mathlib.Core.Bool.{Bool, true, false, _&&_, _||_}
+use mathlib.Core.Bool.{Bool, true, false, _&&_}
 use mathlib.Core.List.{List, [], _∷_}
 use mathlib.Core.Logic.{_⊎_}
 use mathlib.Core.Path.{_≡_}
 use lib.Dec.{ltb, leb, eqb}
-use lib.ListN.{length, getD}
+use lib.ListN.{length}
 use Rattle.le.specs.Number.{number}
-use Rattle.range.specs.Range.{within, multiple}
+use Rattle.range.specs.Range.{multiple}
+use Rattle.outside.specs.Outside.{lies}
 use Rattle.refusal.specs.declared.Refusal.{Refusal}
 use Rattle.refusal.specs.declared.Refusal.the-variants as No
 use Rattle.refusal.specs.declared.Check.{Check}
-use Rattle.refusal.specs.Check.{rule, first, ifPassed}
+use Rattle.refusal.specs.Check.{either, rule, first, ifPassed}
 use Rattle.refusal.specs.Number.{numberOf}
 use Rattle.open.specs.Format.{profile, cct}
 use Rattle.seq.specs.declared.Position.{Position}
@@ -51,18 +52,6 @@ unfoldable pub wordAt : (w : ℕ) → List ℕ → (at k : ℕ) → ℕ
 wordAt w file at k = number 8 file (at + k * (w + 8) + w)
 
 -- ---- 7
-
--- n bytes from a place share none with a section
-unfoldable pub apart : (at n place size : ℕ) → Bool
-apart at n place size = eqb size 0 || (leb (at + n) place || leb (place + size) at)
-
-unfoldable pub apartAll : (at n : ℕ) → (sections : List (List ℕ)) → Bool
-apartAll at n [] = true
-apartAll at n (p ∷ ps) = apart at n (getD p 0 0) (getD p 1 0) && apartAll at n ps
-
--- an array of n elements lies between the header and the last eight bytes, and shares no byte with a section
-unfoldable pub lies : List ℕ → (header : ℕ) → (sections : List (List ℕ)) → (at n : ℕ) → Bool
-lies file header sections at n = within header (length file - 8) at n && apartAll at n sections
 
 unfoldable pub rangeRule : List ℕ → Shape → (sections : List (List ℕ)) → Block → Bool
 rangeRule file h sections b =
@@ -109,13 +98,9 @@ module _ (file : List ℕ) (h : Shape) (b : Block) where
 -- ---- a block
 
 -- without indices there may be no values, and the pointers are ignored
-unfoldable pub ifNone : Bool → (none some : Check) → Check
-ifNone true none some = none
-ifNone false none some = some
-
 unfoldable pub blockCheck : List ℕ → Shape → (sections : List (List ℕ)) → Block → Check
 blockCheck file h sections b =
-    ifNone (eqb (b .count) 0) (rule (eqb (b .total) 0) No.Array)
+    either (eqb (b .count) 0) (rule (eqb (b .total) 0) No.Array)
     (first (rule (rangeRule file h sections b) No.Array) (rule (orderRule file h b) No.Order))
 
 -- what a well-formed block holds of two ids
@@ -128,8 +113,12 @@ module _ (file : List ℕ) (h : Shape) (b : Block) where
   inPart inner (At i) = valueAt (partAt file h b i .place) (position (idAt (h .inner) file (partAt file h b i .place)) inner (partAt file h b i .length))
   inPart inner Nowhere = Absent
 
+  -- where the index of an outer id is
+  unfoldable pub indexOf : (outer : ℕ) → Position
+  indexOf outer = position (outerIds file h b) outer (b .count)
+
   unfoldable pub lookupIn : (outer inner : ℕ) → Lookup
-  lookupIn outer inner = inPart inner (position (outerIds file h b) outer (b .count))
+  lookupIn outer inner = inPart inner (indexOf outer)
 
 -- a lookup in a block of any bytes
 unfoldable pub blockLookup : List ℕ → Shape → (sections : List (List ℕ)) → Block → (outer inner : ℕ) → Lookup

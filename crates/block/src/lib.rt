@@ -3,11 +3,11 @@ ghost use mathlib.Core.Bool.{true};
 ghost use mathlib.Core.List.{[], _∷_};
 ghost use mathlib.Core.Path.{_≡_};
 ghost use Prim.Native.Nat.{_+_, _*_, _-_, _≤_, _<_};
-ghost use lib.ListN.{length, getD};
+ghost use lib.ListN.{length};
 ghost use Rattle.le.specs.Number.{number};
 ghost use Rattle.seq.specs.declared.Position.the-variants as Position;
 ghost use Rattle.seq.specs.Sequence.{rises, position, Sorted};
-ghost use Rattle.block.specs.Block.{profileShape, cctShape, blockAt, idAt, wordAt, apart, apartAll, lies, rangeRule, startOf, endOf, orderRule, blockCheck, inPart, lookupIn, IdWidth, Widths, Array, Room, Valid, partAt, SubArray};
+ghost use Rattle.block.specs.Block.{profileShape, cctShape, blockAt, idAt, wordAt, rangeRule, startOf, endOf, orderRule, blockCheck, indexOf, inPart, lookupIn, IdWidth, Widths, Array, Room, Valid, partAt, SubArray};
 ghost use Rattle.block.specs.OnePass.{partRule};
 use refusal::Check;
 use refusal::Refusal;
@@ -93,31 +93,6 @@ fn count_at(file: &[u8], w: u64, at: u64) -> u64
     }
 }
 
-// Whether elements of an array share no byte with a section.
-fn is_apart(at: u64, n: u64, stride: u64, section: [u64; 2]) -> bool
-    ensures { λ r. ⌜ r ≡ apart at (n * stride) (getD section 0 0) (getD section 1 0) ⌝ }
-{
-    let place = section[0];
-    let size = section[1];
-    (size == 0) | (range::ends_by(at, n, stride, place) | range::ends_by(place, size, 1, at))
-}
-
-// Whether an array lies where it may.
-fn array_lies(
-    file: &[u8],
-    header: u64,
-    one: [u64; 2],
-    other: [u64; 2],
-    at: u64,
-    n: u64,
-    stride: u64,
-) -> bool
-    ensures { λ r. ⌜ r ≡ lies (now (file .entry)) header (one ∷ other ∷ []) at (n * stride) ⌝ }
-{
-    let apart = is_apart(at, n, stride, one) & is_apart(at, n, stride, other);
-    range::within(header, open::last_eight(file), at, n, stride) & apart
-}
-
 // 7, in a file with these sections. Where there is one, the other has size 0.
 fn range_rule(file: &[u8], h: Shape, one: [u64; 2], other: [u64; 2], b: Block) -> bool
     requires { ⌜ Widths h ⌝ }
@@ -126,8 +101,8 @@ fn range_rule(file: &[u8], h: Shape, one: [u64; 2], other: [u64; 2], b: Block) -
     let value = h.inner + 8;
     let index = h.outer + 8;
     let aligned = range::multiple(b.values, 2) & range::multiple(b.indices, 4);
-    let values = array_lies(file, h.header, one, other, b.values, b.total, value);
-    let indices = array_lies(file, h.header, one, other, b.indices, b.count, index);
+    let values = outside::lies(file, h.header, one, other, b.values, b.total, value);
+    let indices = outside::lies(file, h.header, one, other, b.indices, b.count, index);
     let ordered = range::ends_by(b.values, b.total, value, b.indices);
     aligned & ((values & indices) & (ordered & (1 <= b.total)))
 }
@@ -273,7 +248,7 @@ pub fn check(file: &[u8], h: Shape, one: [u64; 2], other: [u64; 2], b: Block) ->
 }
 
 // Where a key is among the n ids of an array, by halving.
-pub fn position(file: &[u8], at: u64, w: u64, n: u64, key: u64) -> Position
+fn position(file: &[u8], at: u64, w: u64, n: u64, key: u64) -> Position
     requires { ⌜ Array (now file) at w n ⌝ }
     requires { ⌜ Sorted (idAt w (now file) at) n ⌝ }
     ensures { λ r. ⌜ r ≡ position (idAt w (now (file .entry)) at) key n ⌝ }
@@ -296,6 +271,17 @@ pub fn position(file: &[u8], at: u64, w: u64, n: u64, key: u64) -> Position
     } else {
         Position::Nowhere
     }
+}
+
+// Where the index of an outer id is.
+pub fn index_of(file: &[u8], h: Shape, b: Block, outer: u64) -> Position
+    requires { ⌜ Valid (now file) h b ⌝ }
+    ensures { λ r. ⌜ r ≡ indexOf (now (file .entry)) h b outer ⌝ }
+{
+    if b.count == 0 {
+        return Position::Nowhere;
+    }
+    position(file, b.indices, h.outer, b.count, outer)
 }
 
 // Sub-array i.
@@ -329,10 +315,7 @@ pub fn find(file: &[u8], h: Shape, b: Block, outer: u64, inner: u64) -> Lookup
     requires { ⌜ Valid (now file) h b ⌝ }
     ensures { λ r. ⌜ r ≡ lookupIn (now (file .entry)) h b outer inner ⌝ }
 {
-    if b.count == 0 {
-        return Lookup::Absent;
-    }
-    let Position::At(i) = position(file, b.indices, h.outer, b.count, outer) else {
+    let Position::At(i) = index_of(file, h, b, outer) else {
         return Lookup::Absent;
     };
     find_in(file, h, b, i, inner)

@@ -4,29 +4,6 @@ use block::Lookup;
 use libc::STDOUT_FILENO;
 use total::Totals;
 
-const MOST: u64 = 18446744073709551615;
-
-// A decimal digit more, or the greatest number.
-fn more(n: u64, digit: u64) -> u64 {
-    if n <= MOST / 10 {
-        let tens = n * 10;
-        if digit <= MOST - tens {
-            return tens + digit;
-        }
-    }
-    MOST
-}
-
-fn decimal(text: &[u8]) -> u64 {
-    let mut n: u64 = 0;
-    let mut i = 0;
-    while i < text.len() {
-        n = more(n, (text[i] % 16) as u64);
-        i += 1;
-    }
-    n
-}
-
 fn spaced(n: u64) {
     io::write_all(STDOUT_FILENO, b" ");
     io::print_decimal(STDOUT_FILENO, n);
@@ -115,7 +92,13 @@ fn row(line: &[u8]) {
     let b = script::word(line, second);
     let c = script::word(line, second + b.len() + 1);
     if 0 < kind.len() {
-        case(kind[0], name, decimal(a), decimal(b), decimal(c));
+        case(
+            kind[0],
+            name,
+            script::decimal(a),
+            script::decimal(b),
+            script::decimal(c),
+        );
     }
     io::write_all(STDOUT_FILENO, b"\n");
 }

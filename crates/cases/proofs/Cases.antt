@@ -5,7 +5,7 @@ use mathlib.Core.Path.{_≡_, refl}
 use Rattle.le.specs.Number.{number}
 use Rattle.layout.specs.Bytes.{bytes, fields, join}
 use Rattle.layout.specs.Stands.{starts, stands}
-use Rattle.refusal.specs.Check.{rule, first, ifPassed}
+use Rattle.refusal.specs.Check.{either, rule, first, ifPassed}
 use Rattle.open.specs.Opening.{placeFor, pairAt, pairsFrom, pairs, sectionRule, strideRule, arrayRule, contextsRule, field, numberAt, strideRules, contentRule, headerRule, frontRules, inOrder, sectionCheck, headerCheck, openingWith, opening}
 use Rattle.array.specs.Element.{elementIf, elementAt, onElement, linkedBelow, linked}
 use Rattle.array.specs.Stored.{arrayOf}
@@ -13,9 +13,10 @@ use Rattle.flex.specs.Packing.{bit, oneMore, present, before, words}
 use Rattle.context.specs.Context.{extent, ifPresent, flexAt, contextRule, linkRule, linksRule, childrenRule, pointerCheck, contextCheck, targetsOf}
 use Rattle.context.specs.Entry.{entryAt}
 use Rattle.traversal.specs.Traversal.{seen, slotCheck, visitCheck, enter, visit, bind, turn, siblings, level, fromRoots, traversal}
-use Rattle.traversal.specs.Walk.{ifShort, truncate, walkOf, walkedOf, walkedWords}
+use Rattle.traversal.specs.Walk.{truncate, walkOf, walkedOf, walkedWords}
 use Rattle.seq.specs.Sequence.{every, floor, rises, hereOr, position}
-use Rattle.block.specs.Block.{blockAt, idAt, wordAt, apart, apartAll, lies, rangeRule, startOf, endOr, endOf, partOf, partAt, orderRule, ifNone, blockCheck, valueAt, inPart, lookupIn, lookupWords}
+use Rattle.outside.specs.Outside.{apart, apartAll, lies}
+use Rattle.block.specs.Block.{blockAt, idAt, wordAt, rangeRule, startOf, endOr, endOf, partOf, partAt, orderRule, blockCheck, valueAt, inPart, indexOf, lookupIn, lookupWords}
 use Rattle.lookup.specs.Lookup.{checkedBlock, checkedAt, onChecked, lookupAt, profileLookup}
 use Rattle.cases.specs.W.{parts, w, built, magic, common}
 use Rattle.cases.specs.B.{three, five, bParts, b}
@@ -64,5 +65,5 @@ pub cases : _≡_ {A = List (List ℕ)}
     ∷ (11 ∷ 0 ∷ [])
     ∷ (11 ∷ 0 ∷ [])
     ∷ [])
-unfolding parts w built join fields bytes magic common flexParts flexFile number starts stands rule first ifPassed placeFor pairAt pairsFrom pairs sectionRule strideRule arrayRule contextsRule field numberAt strideRules contentRule headerRule frontRules inOrder sectionCheck headerCheck openingWith opening linkedBelow linked arrayOf bit oneMore present before words extent ifPresent flexAt contextRule linkRule linksRule childrenRule pointerCheck contextCheck targetsOf entryAt seen slotCheck visitCheck enter visit bind turn siblings level fromRoots traversal ifShort truncate walkOf walkedOf walkedWords bParts b elementIf elementAt onElement every floor rises hereOr position blockAt idAt wordAt apart apartAll lies rangeRule startOf endOr endOf partOf partAt orderRule ifNone blockCheck valueAt inPart lookupIn lookupWords checkedBlock checkedAt onChecked lookupAt profileLookup
+unfolding parts w built join fields bytes magic common flexParts flexFile number starts stands rule first ifPassed placeFor pairAt pairsFrom pairs sectionRule strideRule arrayRule contextsRule field numberAt strideRules contentRule headerRule frontRules inOrder sectionCheck headerCheck openingWith opening linkedBelow linked arrayOf bit oneMore present before words extent ifPresent flexAt contextRule linkRule linksRule childrenRule pointerCheck contextCheck targetsOf entryAt seen slotCheck visitCheck enter visit bind turn siblings level fromRoots traversal either truncate walkOf walkedOf walkedWords bParts b elementIf elementAt onElement every floor rises hereOr position blockAt idAt wordAt apart apartAll lies rangeRule startOf endOr endOf partOf partAt orderRule blockCheck valueAt inPart indexOf lookupIn lookupWords checkedBlock checkedAt onChecked lookupAt profileLookup
 cases = refl

@@ -6,14 +6,13 @@ use Rattle.open.specs.Format as Format
 use Rattle.open.specs.Opening.{pairs, opening}
 use Rattle.seq.specs.declared.Position.{Position}
 use Rattle.seq.specs.declared.Position.the-variants.{At, Nowhere}
-use Rattle.seq.specs.Sequence.{position}
 use Rattle.total.specs.declared.Totals.{Totals}
 use Rattle.total.specs.declared.Totals.the-variants.{Absent, Refused}
 use Rattle.total.specs.Totals.{totalsOf}
 use Rattle.block.specs.declared.Shape.{Shape}
 use Rattle.block.specs.declared.Block.{Block}
 use Rattle.block.specs.declared.Part.{Part}
-use Rattle.block.specs.Block.{cctShape, idAt, wordAt, partAt, outerIds}
+use Rattle.block.specs.Block.{cctShape, idAt, wordAt, partAt, indexOf}
 use Rattle.lookup.specs.Lookup.{checkedAt, onChecked}
 
 -- of a sub-array: its ids, and the bits beside them
@@ -26,7 +25,7 @@ atIndex file h b (At i) = partTotals file h (partAt file h b i)
 atIndex file h b Nowhere = Absent
 
 unfoldable pub totalsIn : List ℕ → Shape → Block → (outer : ℕ) → Totals
-totalsIn file h b outer = atIndex file h b (position (outerIds file h b) outer (b .count))
+totalsIn file h b outer = atIndex file h b (indexOf file h b outer)
 
 unfoldable pub totalsAt : List ℕ → Shape → (sections : List (List ℕ)) → (i outer : ℕ) → Totals
 totalsAt file h sections i outer = onChecked Refused (checkedAt file h sections i) (λ b. totalsIn file h b outer)

@@ -42,10 +42,7 @@ pub fn totals_in(file: &[u8], h: Shape, b: Block, outer: u64) -> Totals
     requires { ⌜ Valid (now file) h b ⌝ }
     ensures { λ r. ⌜ r ≡ totalsIn (now (file .entry)) h b outer ⌝ }
 {
-    if b.count == 0 {
-        return Totals::Absent;
-    }
-    let Position::At(i) = block::position(file, b.indices, h.outer, b.count, outer) else {
+    let Position::At(i) = block::index_of(file, h, b, outer) else {
         return Totals::Absent;
     };
     part_totals(file, h, block::part_at(file, h, b, i))

@@ -8,9 +8,10 @@ use lib.Dec.{leb}
 use lib.ListN.{length}
 use Rattle.refusal.specs.declared.Refusal.{Refusal}
 use Rattle.refusal.specs.declared.Refusal.the-variants as No
+use Rattle.refusal.specs.Check.{either}
 use Rattle.refusal.specs.Number.{numberOf}
 use Rattle.block.specs.declared.Lookup.{Lookup}
-use Rattle.hpcdb.specs.Value.{lookupCode, valueIn, ifRoom, valueCode, valueBytes}
+use Rattle.hpcdb.specs.Value.{lookupCode, valueIn, valueCode, valueBytes}
 
 pub small : (r : Refusal) → numberOf r ≤ 17
 small No.Short = omega arith
@@ -33,10 +34,10 @@ small No.Room = omega arith
 
 module _ (out : List ℕ) (answer : Lookup) where
   pub no-room : length out < 8 → (17 ≡ valueCode out answer) × (out ≡ valueBytes out answer)
-  unfolding valueCode valueBytes ifRoom
+  unfolding valueCode valueBytes either
   no-room h = (rw (lt-leb 8 (length out) h), rw (lt-leb 8 (length out) h))
 
   pub room : 8 ≤ length out → (code : ℕ) (now : List ℕ) → code ≡ lookupCode answer → now ≡ valueIn out answer
       → (code ≡ valueCode out answer) × (now ≡ valueBytes out answer)
-  unfolding valueCode valueBytes ifRoom
+  unfolding valueCode valueBytes either
   room h code now e f = (rw (le-leb 8 (length out) h) e, rw (le-leb 8 (length out) h) f)

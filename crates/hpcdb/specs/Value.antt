@@ -1,10 +1,10 @@
 -- A lookup as C programs call it: a code, and the value in lent bytes.
 use Prim.Native.Nat.{ℕ}
-use mathlib.Core.Bool.{Bool, true, false}
 use mathlib.Core.List.{List}
 use lib.Dec.{leb}
 use lib.ListN.{length}
 use Rattle.refusal.specs.declared.Refusal.the-variants as No
+use Rattle.refusal.specs.Check.{either}
 use Rattle.refusal.specs.Number.{numberOf}
 use Rattle.layout.specs.Bytes.{bytes}
 use Rattle.buffer.specs.Over.{over}
@@ -24,12 +24,8 @@ valueIn out Absent = out
 valueIn out (Refused r) = out
 
 -- 17, first of all, where fewer than eight bytes are lent
-unfoldable pub ifRoom : {A : Type 0} → Bool → A → A → A
-ifRoom true answer refused = answer
-ifRoom false answer refused = refused
-
 unfoldable pub valueCode : (out : List ℕ) → Lookup → ℕ
-valueCode out answer = ifRoom (leb 8 (length out)) (lookupCode answer) (numberOf No.Room)
+valueCode out answer = either (leb 8 (length out)) (lookupCode answer) (numberOf No.Room)
 
 unfoldable pub valueBytes : (out : List ℕ) → Lookup → List ℕ
-valueBytes out answer = ifRoom (leb 8 (length out)) (valueIn out answer) out
+valueBytes out answer = either (leb 8 (length out)) (valueIn out answer) out

@@ -71,7 +71,8 @@ unfolding fields
 field-at [] i h l m = absurd (not-suc-le-zero l)
 field-at {file} {at} (f ∷ fs) zero h l m = rw add-zero (read (f .width) (f .holds) (left file at (bytes (f .width) (f .holds)) (fields fs) h) m)
 field-at {file} {at} (f ∷ fs) (suc i) h l m =
-    let g : Stands file (at + f .width) (fields fs) = moved (at + f .width) (ap (λ (k : ℕ). at + k) (length-bytes (f .width) (f .holds))) (right file at (bytes (f .width) (f .holds)) (fields fs) h) in
+    let g : Stands file (at + f .width) (fields fs) = moved (at + f .width) (ap (λ (k : ℕ). at + k) (length-bytes (f .width) (f .holds)))
+    (right file at (bytes (f .width) (f .holds)) (fields fs) h) in
     let r = field-at fs i g (le-of-suc-le-suc l) m in
     let e : at + (f .width + offset fs i) ≡ at + f .width + offset fs i = omega arith in
     rw e r

@@ -10,7 +10,7 @@ use Rattle.refusal.specs.declared.Check.{Check}
 use Rattle.refusal.specs.declared.Check.the-variants as Check
 use Rattle.refusal.specs.Check.{ifPassed}
 use Rattle.open.specs.Format as Format
-use Rattle.open.specs.Opening.{pairAt, pairsFrom, pairs, placeIn}
+use Rattle.open.specs.Opening.{pairsFrom, pairs, placeIn}
 use Rattle.open.specs.Kept.{Sections}
 use Rattle.array.specs.declared.Element.{Element}
 use Rattle.array.specs.declared.Element.the-variants as Element
@@ -20,6 +20,7 @@ use Rattle.array.proofs.Bounds.{bounded}
 use Rattle.block.specs.declared.Shape.{Shape}
 use Rattle.block.specs.declared.Block.{Block}
 use Rattle.block.specs.declared.Lookup.{Lookup}
+use Rattle.outside.specs.Outside.{apart, apartAll, lies}
 use Rattle.block.specs.Block as B
 use Rattle.block.proofs.Ranges.{valid}
 use Rattle.lookup.specs.declared.Checked.{Checked}
@@ -50,24 +51,12 @@ module _ (file : List ℕ) (h : Shape) (sections : List (List ℕ)) (w : B.Width
   unfolding checkedAt
   checked-valid i f = element-valid (elementAt (infosArray file (placeIn sections 0)) i) f
 
--- the two sections of profile.db
-pub two-sections : (file : List ℕ) (ps : List (List ℕ)) → ps ≡ pairs Format.profile file → (getD ps 0 [] ∷ getD ps 1 [] ∷ []) ≡ ps
-unfolding pairs pairsFrom
-two-sections file ps e = rw e
-
 -- the one of cct.db, beside which one of size 0 counts for nothing
 pub one-section : (file : List ℕ) (h : Shape) (p : List ℕ) (i : ℕ) → checkedAt file h (p ∷ (0 ∷ 0 ∷ []) ∷ []) i ≡ checkedAt file h (p ∷ []) i
-unfolding checkedAt checkedBlock B.blockCheck B.rangeRule B.lies B.apartAll B.apart
+unfolding checkedAt checkedBlock B.blockCheck B.rangeRule lies apartAll apart
 one-section file h p i = refl
 
 pub one-lookup : (file : List ℕ) (h : Shape) (p : List ℕ) (i outer inner : ℕ)
     → lookupAt file h (p ∷ (0 ∷ 0 ∷ []) ∷ []) i outer inner ≡ lookupAt file h (p ∷ []) i outer inner
 unfolding lookupAt
 one-lookup file h p i outer inner = rw (one-section file h p i)
-
-pub cct-pairs : (file : List ℕ) (ps : List (List ℕ)) → ps ≡ pairAt file 16 ∷ [] → ps ≡ pairs Format.cct file
-unfolding pairs pairsFrom
-cct-pairs file ps e = e
-
-pub lone-section : (file : List ℕ) (ps : List (List ℕ)) → ps ≡ pairAt file 16 ∷ [] → (getD ps 0 [] ∷ []) ≡ ps
-lone-section file ps e = rw e

@@ -3,13 +3,14 @@ use Prim.Native.Nat.{ℕ, zero, suc, _+_}
 use mathlib.Core.List.{List, [], _∷_}
 use mathlib.Core.Path.{_≡_, refl, sym, ap, _∙_}
 use native.Mathlib.Nat.{add-zero}
+use lib.ListN.{getD}
 use Rattle.le.specs.Number.{number}
 use Rattle.refusal.specs.declared.Refusal.{Refusal}
 use Rattle.refusal.specs.declared.Check.{Check}
 use Rattle.refusal.specs.declared.Check.the-variants.{Passed, Refused}
 use Rattle.refusal.specs.Check.{rule, first, codeOf, ifPassed}
-use Rattle.open.specs.Format.{Format, section, nothing}
-use Rattle.open.specs.Opening.{placeFor, pairAt, pairs, headerRule, headerCheck, strideRules, contentRule, openingWith, opening, blank, opened}
+use Rattle.open.specs.Format.{Format, Section, section, nothing, profile}
+use Rattle.open.specs.Opening.{placeFor, pairAt, pairsFrom, pairs, headerRule, headerCheck, strideRules, contentRule, openingWith, opening, blank, opened}
 use Rattle.open.specs.Kept.{Sections}
 
 place-some : (size pointer : ℕ) → (size ≡ 0 → ⊥) → placeFor size pointer ≡ pointer
@@ -32,6 +33,20 @@ module _ (file : List ℕ) (entry size : ℕ) (s : size ≡ number 8 file (entry
   pub pair-some : (place : ℕ) → (size ≡ 0 → ⊥) → place ≡ number 8 file (entry + 8) → place ∷ size ∷ [] ≡ pairAt file entry
   unfolding pairAt
   pair-some place n p = rw (← stands-here, place-some size (number 8 file (entry + 8)) n, p)
+
+-- the one section of cct.db and of trace.db
+module _ (f : Format) (file : List ℕ) (s : Section) (one : f .sections ≡ s ∷ []) {ps : List (List ℕ)} (e : ps ≡ pairAt file 16 ∷ []) where
+  pub single-pairs : ps ≡ pairs f file
+  unfolding pairs pairsFrom
+  single-pairs = rw (one, e)
+
+pub single-list : (file : List ℕ) {ps : List (List ℕ)} → ps ≡ pairAt file 16 ∷ [] → (getD ps 0 [] ∷ []) ≡ ps
+single-list file e = rw e
+
+-- the two of profile.db
+pub two-pairs : (file : List ℕ) {ps : List (List ℕ)} → ps ≡ pairs profile file → (getD ps 0 [] ∷ getD ps 1 [] ∷ []) ≡ ps
+unfolding pairs pairsFrom
+two-pairs file e = rw e
 
 -- a header with neither strides nor an array
 pub no-header : (file : List ℕ) (ps : List (List ℕ)) (k end align : ℕ) → headerCheck file ps k (section end align [] nothing) ≡ Passed

@@ -1,4 +1,4 @@
--- What a reader of an opened file knows of section k: its header, its bytes and its array end before the last eight bytes.
+-- What a reader of an opened file knows of section k: its bytes and its array end before the last eight bytes.
 use Prim.Native.Nat.{ℕ, _+_, _-_, _*_, _≤_, _<_}
 use mathlib.Core.List.{List}
 use mathlib.Core.Path.{_≡_, subst}
@@ -18,12 +18,6 @@ module _ (f : Format) (file : List ℕ) (o : Opens f file) (k : ℕ) (l : k < le
   pub section-inside : 0 < size → at + size ≤ length file - 8
   section-inside h = o .section k l .section .inside h
 
-  pub header-inside : 0 < sectionAt f k .end → at + sectionAt f k .end ≤ length file - 8
-  header-inside h =
-      let e : sectionAt f k .end ≤ size = o .section k l .section .large in
-      let i : at + size ≤ length file - 8 = section-inside (omega arith) in
-      omega arith
-
   kept : (c : Content) → sectionAt f k .content ≡ c → ContentKept file at (sectionAt f k .end) size c
   kept c e = subst (λ (x : Content). ContentKept file at (sectionAt f k .end) size x) e (o .section k l .content)
 
@@ -39,14 +33,6 @@ module _ (f : Format) (file : List ℕ) (o : Opens f file) (k : ℕ) (l : k < le
       → field file at (u64 0) + field file at n * numberAt file at s ≤ length file - 8
   array-inside n s e h c =
       let a : field file at (u64 0) + field file at n * numberAt file at s ≤ at + size = array-kept n s e .inside c in
-      let g : sectionAt f k .end ≤ size = o .section k l .section .large in
-      let i : at + size ≤ length file - 8 = section-inside (omega arith) in
-      omega arith
-
-  pub roots-inside : sectionAt f k .content ≡ roots → 0 < sectionAt f k .end → 0 < field file at (u64 0)
-      → field file at (u64 8) + field file at (u64 0) ≤ length file - 8
-  roots-inside e h b =
-      let a : field file at (u64 8) + field file at (u64 0) ≤ at + size = roots-kept e .inside b in
       let g : sectionAt f k .end ≤ size = o .section k l .section .large in
       let i : at + size ≤ length file - 8 = section-inside (omega arith) in
       omega arith

@@ -103,7 +103,14 @@ contexts-iff at end size place bytes = go (eqb place 0) (eqb bytes 0) refl refl
     go false false p b = (
       λ e.
           let f = l .0 (rw b e) in
-          record { no-place = λ h. absurd (eqb-false place 0 p h); no-bytes = λ h. absurd (eqb-false bytes 0 b h); after = λ h. f h .0; inside = λ h. f h .1; aligned = λ h. f h .2 },
+          record {
+            no-place = λ h. absurd (eqb-false place 0 p h);
+            no-bytes = λ h. absurd (eqb-false bytes 0 b h);
+            after = λ h. f h .0;
+            inside =
+                λ h. f h .1;
+            aligned = λ h. f h .2;
+          },
       λ k. rw b at (l .1 (λ h. (k .after h, k .inside h, k .aligned h))),
     )
 
@@ -205,7 +212,8 @@ module _ (f : Format) (file : List ℕ) where
       )
 
   sections-iff : (ps : List (List ℕ))
-      → (first (inOrder (sectionCheck (f .header) file ps) 0 (f .sections)) (inOrder (headerCheck file ps) 0 (f .sections)) ≡ Passed) ↔ ((j : ℕ) → j < length (f .sections) → AllKept (f .header) file (sectionAt f j) (placeIn ps j) (sizeIn ps j))
+      → (first (inOrder (sectionCheck (f .header) file ps) 0 (f .sections)) (inOrder (headerCheck file ps) 0 (f .sections)) ≡ Passed) ↔
+      ((j : ℕ) → j < length (f .sections) → AllKept (f .header) file (sectionAt f j) (placeIn ps j) (sizeIn ps j))
   sections-iff ps =
       let b = first-passes (inOrder (sectionCheck (f .header) file ps) 0 (f .sections)) (inOrder (headerCheck file ps) 0 (f .sections)) in
       let s = all-iff (sectionCheck (f .header) file ps) (f .sections) in
@@ -221,7 +229,8 @@ module _ (f : Format) (file : List ℕ) where
   unfolding opening openingWith
   opens-iff =
       let ps = pairs f file in
-      let b = first-passes (frontRules (f .magic) (f .footer) (f .header) file) (first (inOrder (sectionCheck (f .header) file ps) 0 (f .sections)) (inOrder (headerCheck file ps) 0 (f .sections))) in (
+      let b = first-passes (frontRules (f .magic) (f .footer) (f .header) file)
+      (first (inOrder (sectionCheck (f .header) file ps) 0 (f .sections)) (inOrder (headerCheck file ps) 0 (f .sections))) in (
         λ e.
             let k = front-iff .0 (b .0 e .0) in
             record { long = k .0; magic = k .1; version = k .2; footer = k .3; section = sections-iff ps .0 (b .0 e .1) },

@@ -11,6 +11,11 @@ unfoldable pub codeOf : Check → ℕ
 codeOf Passed = 0
 codeOf (Refused r) = numberOf r
 
+-- one of two by a test
+unfoldable pub either : {A : Type 0} → Bool → A → A → A
+either true one other = one
+either false one other = other
+
 -- a rule that holds is passed, and else its refusal is given
 unfoldable pub rule : Bool → Refusal → Check
 rule true r = Passed

@@ -1,4 +1,4 @@
--- The loop that tests whether a sequence rises; a strictly rising sequence is sorted, and the other way round.
+-- The loop that tests whether a sequence rises; in one that does, any two are a gap apart, and the other way round.
 use Prim.Native.Nat.{ℕ, zero, suc, _+_, _≤_, _<_}
 use mathlib.Core.Bool.{Bool, true, false}
 use mathlib.Core.Logic.{_⊎_, inl, inr}
@@ -8,7 +8,7 @@ use native.Mathlib.Numerals.{add-one}
 use native.Mathlib.Omega.{arith}
 use borrow.Author.Tests.{le-leb, lt-leb, leb-true}
 use lib.Dec.{leb}
-use Rattle.seq.specs.Sequence.{every, floor, rises, Sorted}
+use Rattle.seq.specs.Sequence.{every, floor, rises, Sorted, NonDecreasing}
 use Rattle.seq.proofs.Every.{every-none, every-more, every-at, every-of, every-not}
 
 module _ (least gap : ℕ) (f : ℕ → ℕ) where
@@ -71,18 +71,32 @@ module _ {least gap : ℕ} {f : ℕ → ℕ} {n low k : ℕ} (r : Rising least g
   pub rising-all : n ≤ k → rises least gap f n ≡ true
   rising-all h = let e : n ≡ k = omega (arith, r .within) in rw e (r .so-far)
 
--- ---- with a gap of 1
+-- ---- any two of them
 
-pub next-sorted : (f : ℕ → ℕ) (n : ℕ) → ((k : ℕ) → suc k < n → f k < f (suc k)) → Sorted f n
-next-sorted f n h p zero l m = absurd (not-suc-le-zero l)
-next-sorted f n h p (suc q) l m = last (eq-or-lt-of-le (le-of-suc-le-suc l)) (h q m) (next-sorted f n h p q)
+-- what holds of neighbours holds of any two: they are a gap apart
+apart : (gap : ℕ) (f : ℕ → ℕ) (n : ℕ) → ((k : ℕ) → suc k < n → f k + gap ≤ f (suc k)) → (p q : ℕ) → p < q → q < n → f p + gap ≤ f q
+apart gap f n h p zero l m = absurd (not-suc-le-zero l)
+apart gap f n h p (suc q) l m = last (eq-or-lt-of-le (le-of-suc-le-suc l)) (h q m) (apart gap f n h p q)
   where
-    last : (p ≡ q) ⊎ (p < q) → f q < f (suc q) → (p < q → q < n → f p < f q) → f p < f (suc q)
+    last : (p ≡ q) ⊎ (p < q) → f q + gap ≤ f (suc q) → (p < q → q < n → f p + gap ≤ f q) → f p + gap ≤ f (suc q)
     last (inl e) s r = rw e s
     last (inr k) s r = omega (arith, r k (omega arith))
 
+pub rises-apart : (least gap : ℕ) (f : ℕ → ℕ) (n : ℕ) → rises least gap f n ≡ true → (p q : ℕ) → p < q → q < n → f p + gap ≤ f q
+rises-apart least gap f n h = apart gap f n (rises-next least gap f n h)
+
+pub rises-nondecreasing : (least gap : ℕ) (f : ℕ → ℕ) (n : ℕ) → rises least gap f n ≡ true → NonDecreasing f n
+rises-nondecreasing least gap f n h p q l m = omega (arith, rises-apart least gap f n h p q l m)
+
+-- with a gap of 1
+pub next-sorted : (f : ℕ → ℕ) (n : ℕ) → ((k : ℕ) → suc k < n → f k < f (suc k)) → Sorted f n
+next-sorted f n h p q l m = omega (arith, apart 1 f n (λ k l. omega (arith, h k l)) p q l m)
+
 pub rises-sorted : (least : ℕ) (f : ℕ → ℕ) (n : ℕ) → rises least 1 f n ≡ true → Sorted f n
-rises-sorted least f n h = next-sorted f n (λ k l. omega (arith, rises-next least 1 f n h k l))
+rises-sorted least f n h p q l m = omega (arith, rises-apart least 1 f n h p q l m)
+
+pub sorted-nondecreasing : (f : ℕ → ℕ) (n : ℕ) → Sorted f n → NonDecreasing f n
+sorted-nondecreasing f n s p q l m = omega (arith, s p q l m)
 
 pub sorted-rises : (least : ℕ) (f : ℕ → ℕ) (n : ℕ) → Sorted f n → (0 < n → least ≤ f 0) → rises least 1 f n ≡ true
 sorted-rises least f n s m = rises-of least 1 f n m (λ k l. omega (arith, s k (suc k) (omega arith) l))

@@ -1,5 +1,5 @@
 -- Sequences of numbers: f 0, .., f (n - 1).
-use Prim.Native.Nat.{ℕ, zero, suc, _+_, _<_}
+use Prim.Native.Nat.{ℕ, zero, suc, _+_, _≤_, _<_}
 use mathlib.Core.Bool.{Bool, true, false, _&&_}
 use lib.Dec.{leb, eqb}
 use Rattle.seq.specs.declared.Position.{Position}
@@ -28,6 +28,14 @@ unfoldable pub position : (ℕ → ℕ) → (key n : ℕ) → Position
 position f key zero = Nowhere
 position f key (suc n) = hereOr (eqb (f n) key) n (position f key n)
 
--- they increase strictly, as a fact
+-- where the last of them is that is not above a key
+unfoldable pub lastUpTo : (ℕ → ℕ) → (key n : ℕ) → Position
+lastUpTo f key zero = Nowhere
+lastUpTo f key (suc n) = hereOr (leb (f n) key) n (lastUpTo f key n)
+
+-- as facts: they increase strictly; they do not fall
 abbrev pub Sorted : (ℕ → ℕ) → (n : ℕ) → Type 0
 Sorted f n = (p q : ℕ) → p < q → q < n → f p < f q
+
+abbrev pub NonDecreasing : (ℕ → ℕ) → (n : ℕ) → Type 0
+NonDecreasing f n = (p q : ℕ) → p < q → q < n → f p ≤ f q

@@ -81,7 +81,8 @@ module _ (file section : List ℕ) (place : ℕ) where
       → take (place + n - place) (drop place file) ≡ bytesFrom file section place
   all-taken n e h =
       part-some file place n ∙ elim (decLe (getD section 0 0) place) [
-        | yes l ↦ take-count (drop place file) (getD section 0 0 + getD section 1 0 - place) n (e ∙ count l ∙ ap (min (getD section 0 0 + getD section 1 0 - place)) (sym (length-drop place file))) ∙ sym (from-place l)
+        | yes l ↦ take-count (drop place file) (getD section 0 0 + getD section 1 0 - place) n
+            (e ∙ count l ∙ ap (min (getD section 0 0 + getD section 1 0 - place)) (sym (length-drop place file))) ∙ sym (from-place l)
         | no l ↦ absurd (omega (arith, outside (omega arith)))
       ]
 

@@ -8,6 +8,7 @@ use borrow.Author.Tests.{le-leb, lt-leb, ltb-true, ltb-false, leb-true, leb-fals
 use lib.Dec.{ltb, leb}
 use lib.ListN.{length, take, length-append}
 use lib.Seq.{take-at, take-all}
+use Rattle.refusal.specs.Check.{either}
 use Rattle.refusal.specs.declared.Check.{Check}
 use Rattle.refusal.specs.declared.Check.the-variants.{Passed, Refused}
 use Rattle.open.specs.Opening.{field}
@@ -15,16 +16,16 @@ use Rattle.context.specs.Context.{Targets, childrenPlace, childrenBytes, extent
 use Rattle.context.specs.Entry.{Entry, entryAt}
 use Rattle.traversal.specs.More.{Begins}
 use Rattle.traversal.specs.Traversal.{Outcome, on, cut, refused, listOf, Parameters, visitCheck, enter, Down, visit, bind, turn, siblings, level}
-use Rattle.traversal.specs.Walk.{ifShort, truncate}
+use Rattle.traversal.specs.Walk.{truncate}
 use Rattle.traversal.proofs.Begins.{begins-refl, begins-length, take-begins}
 use Rattle.traversal.proofs.Grows.{Grows, GrowsDown, grows-siblings, grows-level}
 
 pub truncate-short : (n : ℕ) (o : Outcome) → length (listOf o) ≤ n → truncate n o ≡ o
-unfolding truncate ifShort
+unfolding truncate either
 truncate-short n o h = rw (le-leb (length (listOf o)) n h)
 
 pub truncate-long : (n : ℕ) (o : Outcome) → n < length (listOf o) → truncate n o ≡ cut (take n (listOf o))
-unfolding truncate ifShort
+unfolding truncate either
 truncate-long n o h = rw (lt-leb (length (listOf o)) n h)
 
 pub list-truncate : (n : ℕ) (o : Outcome) → listOf (truncate n o) ≡ take n (listOf o)
@@ -50,11 +51,11 @@ module _ (n : ℕ) where
 
   -- what has ended stays ended, cut or not
   ended : (o : Outcome) (K K' : List Entry → Outcome) → ((m : List Entry) → o ≡ on m → ⊥) → bind (truncate n o) K' ≡ truncate n o
-  unfolding truncate ifShort bind
+  unfolding truncate either bind
   ended o K K' h = go (leb (length (listOf o)) n) o h
     where
       go : (b : Bool) (o : Outcome) → ((m : List Entry) → o ≡ on m → ⊥)
-          → bind (ifShort b o (cut (take n (listOf o)))) K' ≡ ifShort b o (cut (take n (listOf o)))
+          → bind (either b o (cut (take n (listOf o)))) K' ≡ either b o (cut (take n (listOf o)))
       go true (on m) h = absurd (h m refl)
       go true (cut m) h = refl
       go true (refused r m) h = refl

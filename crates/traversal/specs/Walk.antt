@@ -4,7 +4,7 @@ use mathlib.Core.Bool.{Bool, true, false}
 use mathlib.Core.List.{List, [], _∷_, _++_, map}
 use lib.Dec.{leb}
 use lib.ListN.{length, take, set, replicate}
-use Rattle.refusal.specs.Check.{ifPassed}
+use Rattle.refusal.specs.Check.{either, ifPassed}
 use Rattle.refusal.specs.Number.{numberOf}
 use Rattle.buffer.specs.Over.{over}
 use Rattle.open.specs.Format.{meta}
@@ -15,12 +15,8 @@ use Rattle.traversal.specs.declared.Walked.the-variants.{Complete, Trunc
 use Rattle.traversal.specs.Traversal.{Outcome, on, cut, refused, listOf, traversal}
 
 -- all with its end, or the first n and cut
-unfoldable pub ifShort : Bool → (short long : Outcome) → Outcome
-ifShort true short long = short
-ifShort false short long = long
-
 unfoldable pub truncate : (n : ℕ) → Outcome → Outcome
-truncate n o = ifShort (leb (length (listOf o)) n) o (cut (take n (listOf o)))
+truncate n o = either (leb (length (listOf o)) n) o (cut (take n (listOf o)))
 
 -- the walk with a listing of `room` words and a table of `slots`
 unfoldable pub walkOf : List ℕ → (room slots : ℕ) → Outcome

@@ -89,7 +89,8 @@ module _ (file : List ℕ) (t : Targets) (depth at stop : ℕ) (was : Lent) (l :
       let u = turned p (g .bound) (g .i) (g .so) k (g .enough) (takes-some file p) in
       let path = ups ++ (g .i ∷ []) in
       stop-by (refused No.Context (g .so)) (λ m. siblings E down parent ups (u .0) (suc (g .i)) (p + extent file p) stop m) _ s
-      (g .same ∙ u .2 ∙ ap (λ (o : Outcome). bind o (λ m. siblings E down parent ups (u .0) (suc (g .i)) (p + extent file p) stop m)) (visit-10 E down parent path p stop (g .so) e))
+      (g .same ∙ u .2 ∙ ap (λ (o : Outcome). bind o (λ m. siblings E down parent ups (u .0) (suc (g .i)) (p + extent file p) stop m))
+      (visit-10 E down parent path p stop (g .so) e))
       (done-refused was s (g .so) n (g .holds) No.Context) (λ k e. let z : _≡_ {A = ℕ} 0 1 = cc in omega arith)
 
   go-by : (p k i n : ℕ) (o : Outcome) (s : Slices) → stop - p ≤ k

@@ -9,12 +9,13 @@ use borrow.Author.Tests.{eq-eqb, ne-eqb, ltb-true, ltb-false, eqb-true, eqb-fals
 use lib.Dec.{eqb, ltb}
 use lib.ListN.{length, getD, set, take, replicate, length-append, length-set, length-replicate, getD-replicate, length-map}
 use lib.Seq.{getD-set-same, getD-set-other, take-all, take-append-le}
+use Rattle.refusal.specs.Check.{either}
 use Rattle.buffer.specs.Over.{over}
 use Rattle.buffer.proofs.Laws.{over-none, over-append, over-one, length-over}
 use Rattle.context.specs.Entry.{Entry, entryWords, wordsEach}
 use Rattle.traversal.specs.Traversal.{seen}
 use Rattle.traversal.specs.Walk.{placeOf, listingWith, slotsWith, tableWith, wordsOf, recordsWith}
-use Rattle.walk.specs.State.{Lent, Slices, slices, Placed, taken, Holds, ifRoom}
+use Rattle.walk.specs.State.{Lent, Slices, slices, Placed, taken, Holds}
 
 pub not-not : (b : Bool) → not (not b) ≡ b
 not-not true = refl
@@ -124,16 +125,16 @@ length-records was l = length-over was 0 (wordsOf (take (length was / wordsEach)
 
 records-snoc : (was : List ℕ) (l : List Entry) (e : Entry)
     → recordsWith (l ++ (e ∷ [])) was
-    ≡ ifRoom (ltb (length l) (length (recordsWith l was) / wordsEach)) (over (recordsWith l was) (length l * wordsEach) (entryWords e))
+    ≡ either (ltb (length l) (length (recordsWith l was) / wordsEach)) (over (recordsWith l was) (length l * wordsEach) (entryWords e))
     (recordsWith l was)
-unfolding recordsWith ifRoom
+unfolding recordsWith either
 records-snoc was l e = rw (length-records was l) (go (ltb (length l) (length was / wordsEach)) refl)
   where
     m : ℕ
     m = length was / wordsEach
 
     go : (b : Bool) → ltb (length l) m ≡ b
-        → recordsWith (l ++ (e ∷ [])) was ≡ ifRoom b (over (recordsWith l was) (length l * wordsEach) (entryWords e)) (recordsWith l was)
+        → recordsWith (l ++ (e ∷ [])) was ≡ either b (over (recordsWith l was) (length l * wordsEach) (entryWords e)) (recordsWith l was)
     go true h =
         let short = ltb-true (length l) m h in
         let all : take m (l ++ (e ∷ [])) ≡ l ++ (e ∷ []) = take-all m (l ++ (e ∷ [])) (omega (arith, length-append l (e ∷ []))) in
@@ -161,7 +162,7 @@ module _ {was : Lent} {l : List Entry} {s : Slices} {n : ℕ} (h : Holds was l s
   wide = rw (h .filled) (length-slots (replicate (was .slots) 0) l ∙ length-replicate (was .slots) 0)
 
   pub one-more : (e : Entry) (records : List ℕ) → 0 < e .place
-      → records ≡ ifRoom (ltb n (length (s .records) / wordsEach)) (over (s .records) (n * wordsEach) (entryWords e)) (s .records)
+      → records ≡ either (ltb n (length (s .records) / wordsEach)) (over (s .records) (n * wordsEach) (entryWords e)) (s .records)
       → Holds was (l ++ (e ∷ [])) (slices (set (s .listing) n (e .place)) (set (s .table) (e .ctxId) (e .place)) records) (n + 1)
   unfolding tableWith
   one-more e records p r = record {

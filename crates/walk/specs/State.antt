@@ -6,6 +6,7 @@ use mathlib.Core.List.{List, [], _∷_}
 use mathlib.Core.Path.{_≡_}
 use lib.Dec.{eqb, ltb}
 use lib.ListN.{length, getD}
+use Rattle.refusal.specs.Check.{either}
 use Rattle.buffer.specs.Over.{over}
 use Rattle.context.specs.Context.{Targets}
 use Rattle.context.specs.Entry.{Entry, entryAt, entryWords, wordsEach}
@@ -76,11 +77,7 @@ ContextDoes file t depth p stop n s r s' =
     → Done was (visit (limited file t was) (below (limited file t was) (suc depthLimit - depth)) parent path p stop l) r s'
 
 -- record n holds a context's words, if there is room for all of them
-unfoldable pub ifRoom : Bool → (put was : List ℕ) → List ℕ
-ifRoom true put was = put
-ifRoom false put was = was
-
 abbrev pub RecordPut : List ℕ → (p depth n : ℕ) → (was now : List ℕ) → Type 0
 RecordPut file p depth n was now =
     (parent : ℕ) (path : List ℕ) → length path ≡ depth
-    → now ≡ ifRoom (ltb n (length was / wordsEach)) (over was (n * wordsEach) (entryWords (entryAt file parent path p))) was
+    → now ≡ either (ltb n (length was / wordsEach)) (over was (n * wordsEach) (entryWords (entryAt file parent path p))) was

@@ -7,23 +7,12 @@ use libc::STDOUT_FILENO;
 // What the table holds before a walk.
 const BEFORE: u64 = 7;
 
-fn capped(n: usize) -> usize
-    ensures { λ r. ⌜ r ≤ 1024 ⌝ }
-{
-    if 1024 < n { 1024 } else { n }
-}
-
 // A decimal number, at most 1,024.
-fn decimal(text: &[u8]) -> usize
+fn room(text: &[u8]) -> usize
     ensures { λ r. ⌜ r ≤ 1024 ⌝ }
 {
-    let mut n: usize = 0;
-    let mut i = 0;
-    while i < text.len() {
-        n = capped(n * 10 + (text[i] % 16) as usize);
-        i += 1;
-    }
-    n
+    let n = script::decimal(text);
+    if 1024 < n { 1024 } else { n as usize }
 }
 
 // Place, flags, function, file, line, module and offset of the i-th context.
@@ -133,9 +122,9 @@ fn row(line: &[u8]) {
     report::newline();
     let name = script::word(line, 0);
     let at = name.len() + 1;
-    let room = script::word(line, at);
-    let size = script::word(line, at + room.len() + 1);
-    case(name, decimal(room), decimal(size));
+    let words = script::word(line, at);
+    let slots = script::word(line, at + words.len() + 1);
+    case(name, room(words), room(slots));
 }
 
 fn each_line(list: &[u8]) {

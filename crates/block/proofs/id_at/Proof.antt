@@ -25,8 +25,11 @@ returns-2 c =
     let load-u32 = c .load-u32 in
     let element = c .before .before .element in
     let args = c .before .before .before .before .args in
-    let pre = c .before .before .before .before .pre in
-    (⊎-elim (λ q. absurd (if1 .left q)) (λ q. rw (load-u32 .ensures, element .ensures .0) (ap (λ (v : ℕ). number v (now (args .file)) (args .at + args .k * (args .w + 8))) (sym q))) (pre .0 .width), omega arith)
+    let pre = c .before .before .before .before .pre in (
+      ⊎-elim (λ q. absurd (if1 .left q)) (λ q. rw (load-u32 .ensures, element .ensures .0)
+          (ap (λ (v : ℕ). number v (now (args .file)) (args .at + args .k * (args .w + 8))) (sym q))) (pre .0 .width),
+      omega arith,
+    )
 
 pub id-at-spec : {M : Type 1} → statement M
 id-at-spec =

@@ -31,7 +31,11 @@ element-requires c κs =
     let start-of = c .before .start-of in
     let end-of = c .end-of in (
       (pre .0 .room (omega (arith, pre .1))) .values,
-      omega (arith, (part-of (pre .0) (args .i) (start-of .result) (end-of .result) (pre .1) (start-of .ensures) (end-of .ensures)) .some, (part-of (pre .0) (args .i) (start-of .result) (end-of .result) (pre .1) (start-of .ensures) (end-of .ensures)) .ends),
+      omega (
+        arith,
+        (part-of (pre .0) (args .i) (start-of .result) (end-of .result) (pre .1) (start-of .ensures) (end-of .ensures)) .some,
+        (part-of (pre .0) (args .i) (start-of .result) (end-of .result) (pre .1) (start-of .ensures) (end-of .ensures)) .ends,
+      ),
     )
 
 returns : tie.Need-returns
@@ -43,7 +47,8 @@ returns c =
     let args = c .before .before .before .before .args in
     let pre = c .before .before .before .before .pre in (
       rw (element .ensures .0, end-of .ensures, start-of .ensures),
-      sub-array (now (args .file)) (args .h) (args .b) (element .result) (start-of .result) (end-of .result) (element .ensures .0) (pre .0 .room (omega (arith, pre .1))) (part-of (pre .0) (args .i) (start-of .result) (end-of .result) (pre .1) (start-of .ensures) (end-of .ensures)),
+      sub-array (now (args .file)) (args .h) (args .b) (element .result) (start-of .result) (end-of .result) (element .ensures .0)
+          (pre .0 .room (omega (arith, pre .1))) (part-of (pre .0) (args .i) (start-of .result) (end-of .result) (pre .1) (start-of .ensures) (end-of .ensures)),
     )
 
 pub part-at-spec : {M : Type 1} → statement M

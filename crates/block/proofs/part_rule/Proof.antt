@@ -35,7 +35,8 @@ ids-rise-requires c κs =
     let if1 = c .before .before .before .if1 in
     let if2 = c .before .if2 in
     rw (element .ensures .0)
-    (part-array (now (args .file)) (args .b .values) (args .h .inner) (args .b .total) (start-of .result) (end-of .result) (pre .0 .values) (omega (arith, if1 .left)) (omega (arith, if2 .left)))
+    (part-array (now (args .file)) (args .b .values) (args .h .inner) (args .b .total) (start-of .result) (end-of .result) (pre .0 .values)
+    (omega (arith, if1 .left)) (omega (arith, if2 .left)))
 
 returns-3 : tie.Need-returns-3
 returns-3 c =

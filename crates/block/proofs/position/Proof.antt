@@ -1,6 +1,7 @@
 -- What is before `low` is less than the key, what is from `high` on is not.
 use borrow.Author.Needs.{needs}
 use Rattle.seq.proofs.Search.{Bracket, bracket-start, bracket-up, bracket-down, bracket-none, position-none, position-at}
+use Rattle.seq.proofs.Rising.{sorted-nondecreasing}
 use mathlib.Core.Path.{sym, _∙_}
 use Prim.Native.Nat.{_+_, _-_, _/_}
 use Rattle.block.specs.Block.{idAt}
@@ -49,7 +50,8 @@ loop-again c =
     let loop = c .before .before .before .loop in
     let id-at = c .before .id-at in
     let if1 = c .if1 in
-    bracket-up (pre .1) (loop .inv) (loop .low + (loop .high - loop .low) / 2) (omega arith) (omega arith) (rw (id-at .ensures .0) at (if1 .taken))
+    bracket-up (sorted-nondecreasing _ _ (pre .1)) (loop .inv) (loop .low + (loop .high - loop .low) / 2) (omega arith) (omega arith)
+    (rw (id-at .ensures .0) at (if1 .taken))
 
 loop-less-2 : tie.Need-loop-less-2 Inv-loop μ-loop
 loop-less-2 c =
@@ -61,7 +63,8 @@ loop-again-2 c =
     let loop = c .before .before .before .loop in
     let id-at = c .before .id-at in
     let if1 = c .if1 in
-    bracket-down (pre .1) (loop .inv) (loop .low + (loop .high - loop .low) / 2) (omega arith) (omega arith) (rw (id-at .ensures .0) at (if1 .left))
+    bracket-down (sorted-nondecreasing _ _ (pre .1)) (loop .inv) (loop .low + (loop .high - loop .low) / 2) (omega arith) (omega arith)
+    (rw (id-at .ensures .0) at (if1 .left))
 
 returns : tie.Need-returns Inv-loop μ-loop
 returns c =
@@ -97,7 +100,8 @@ returns-3 c =
     let if3 = c .if3 in
     let id-at2 = c .before .id-at2 in
     sym (position-none (idAt (args .w) (now (args .file)) (args .at)) (args .key) (args .n)
-    (bracket-none (idAt (args .w) (now (args .file)) (args .at)) (args .n) (args .key) (loop .low) (loop .high) (pre .1) (loop .inv) (loop-test .left) (if2 .left) (λ e. if3 .left (id-at2 .ensures .0 ∙ e))))
+    (bracket-none (idAt (args .w) (now (args .file)) (args .at)) (args .n) (args .key) (loop .low) (loop .high) (pre .1) (loop .inv) (loop-test .left)
+    (if2 .left) (λ e. if3 .left (id-at2 .ensures .0 ∙ e))))
 
 pub position-spec : {M : Type 1} → statement M
 position-spec =

@@ -21,10 +21,10 @@ unfolding rangeRule
 returns c =
     let multiple = c .before .before .before .before .before .multiple in
     let multiple2 = c .before .before .before .before .multiple2 in
-    let array-lies = c .before .before .before .array-lies in
-    let array-lies2 = c .before .before .array-lies2 in
+    let values = c .before .before .before .lies in
+    let indices = c .before .before .lies2 in
     let ends-by = c .before .ends-by in
-    rw (multiple .ensures, multiple2 .ensures, array-lies .ensures, array-lies2 .ensures, ends-by .ensures)
+    rw (multiple .ensures, multiple2 .ensures, values .ensures, indices .ensures, ends-by .ensures)
 
 pub range-rule-spec : {M : Type 1} → statement M
 range-rule-spec =

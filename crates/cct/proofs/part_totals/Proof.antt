@@ -33,7 +33,8 @@ returns c =
     let is-finite = c .before .is-finite in
     let if1 = c .if1 in
     sym
-    (summing-not (idAt (args .h .inner) (now (args .file)) (args .p .place)) (wordAt (args .h .inner) (now (args .file)) (args .p .place)) (args .p .length) 0 (pre .some) (sym (ap finite (word-at .ensures)) ∙ sym (is-finite .ensures) ∙ not-true (is-finite .result) (if1 .taken)))
+    (summing-not (idAt (args .h .inner) (now (args .file)) (args .p .place)) (wordAt (args .h .inner) (now (args .file)) (args .p .place))
+    (args .p .length) 0 (pre .some) (sym (ap finite (word-at .ensures)) ∙ sym (is-finite .ensures) ∙ not-true (is-finite .result) (if1 .taken)))
 
 id-at-requires : tie.Need-id-at-requires Inv-loop μ-loop
 id-at-requires c κs =
@@ -56,7 +57,8 @@ loop-holds c =
     let is-finite = c .before .before .before .is-finite in
     let if1 = c .before .before .if1 in
     rw (start .ensures .0, id-at .ensures .0, word-at .ensures)
-    (summing-start (idAt (args .h .inner) (now (args .file)) (args .p .place)) (wordAt (args .h .inner) (now (args .file)) (args .p .place)) (args .p .length) (pre .some) (sym (ap finite (word-at .ensures)) ∙ sym (is-finite .ensures) ∙ not-false (is-finite .result) (if1 .left)))
+    (summing-start (idAt (args .h .inner) (now (args .file)) (args .p .place)) (wordAt (args .h .inner) (now (args .file)) (args .p .place))
+    (args .p .length) (pre .some) (sym (ap finite (word-at .ensures)) ∙ sym (is-finite .ensures) ∙ not-false (is-finite .result) (if1 .left)))
 
 word-at-requires-2 : tie.Need-word-at-requires-2 Inv-loop μ-loop
 word-at-requires-2 c κs =
@@ -74,7 +76,8 @@ returns-2 c =
     let is-finite2 = c .before .is-finite2 in
     let if3 = c .if3 in
     sym
-    (summing-not (idAt (args .h .inner) (now (args .file)) (args .p .place)) (wordAt (args .h .inner) (now (args .file)) (args .p .place)) (args .p .length) (loop .k) (if2 .taken) (sym (ap finite (word-at2 .ensures)) ∙ sym (is-finite2 .ensures) ∙ not-true (is-finite2 .result) (if3 .taken)))
+    (summing-not (idAt (args .h .inner) (now (args .file)) (args .p .place)) (wordAt (args .h .inner) (now (args .file)) (args .p .place))
+    (args .p .length) (loop .k) (if2 .taken) (sym (ap finite (word-at2 .ensures)) ∙ sym (is-finite2 .ensures) ∙ not-true (is-finite2 .result) (if3 .taken)))
 
 id-at-requires-2 : tie.Need-id-at-requires-2 Inv-loop μ-loop
 id-at-requires-2 c κs =
@@ -100,7 +103,8 @@ loop-again c =
     let is-finite2 = c .before .before .before .is-finite2 in
     let if3 = c .before .before .if3 in
     rw (step .ensures .0, id-at2 .ensures .0, word-at2 .ensures)
-    (summing-more (idAt (args .h .inner) (now (args .file)) (args .p .place)) (wordAt (args .h .inner) (now (args .file)) (args .p .place)) (args .p .length) (loop .inv) (if2 .taken) (sym (ap finite (word-at2 .ensures)) ∙ sym (is-finite2 .ensures) ∙ not-false (is-finite2 .result) (if3 .left)))
+    (summing-more (idAt (args .h .inner) (now (args .file)) (args .p .place)) (wordAt (args .h .inner) (now (args .file)) (args .p .place))
+    (args .p .length) (loop .inv) (if2 .taken) (sym (ap finite (word-at2 .ensures)) ∙ sym (is-finite2 .ensures) ∙ not-false (is-finite2 .result) (if3 .left)))
 
 finish-requires : tie.Need-finish-requires Inv-loop μ-loop
 finish-requires c κs =
@@ -115,7 +119,8 @@ returns-3 c =
     let loop = c .before .before .before .loop in
     let if2 = c .before .if2 in
     finish .ensures ∙ sym
-    (summing-all (idAt (args .h .inner) (now (args .file)) (args .p .place)) (wordAt (args .h .inner) (now (args .file)) (args .p .place)) (args .p .length) (loop .inv) (if2 .left))
+    (summing-all (idAt (args .h .inner) (now (args .file)) (args .p .place)) (wordAt (args .h .inner) (now (args .file)) (args .p .place))
+    (args .p .length) (loop .inv) (if2 .left))
 
 pub part-totals-spec : {M : Type 1} → statement M
 part-totals-spec =

@@ -1,11 +1,10 @@
 -- By whether the file opens.
 use Rattle.cct.proofs.Laws.{one-total}
-use Rattle.lookup.proofs.Laws.{cct-pairs, lone-section}
 use Rattle.block.specs.Block.{cctShape}
 use Rattle.total.specs.declared.Totals.the-variants.{Refused}
 use Rattle.total.specs.declared.Totals.{Totals}
 use Rattle.array.proofs.Bounds.{bounded}
-use Rattle.open.proofs.Answer.{answers, refuses, told-passed}
+use Rattle.open.proofs.Answer.{answers, refuses, told-passed, single-pairs, single-list}
 use Rattle.open.specs.Format as Format
 use Prim.Native.Nat.{ℕ}
 use mathlib.Core.List.{List}
@@ -25,7 +24,8 @@ totals-at-requires c κs =
     let check-cct = c .before .before .before .before .check-cct in
     let enum-told = c .before .before .enum-told in
     let cct-shape = c .before .cct-shape in
-    let opened = told-passed Format.cct _ (cct-pairs (now (args .file)) _ (single-section .ensures)) (check-cct .ensures) (enum-told .given .1) in (
+    let opened = told-passed Format.cct _ (single-pairs Format.cct (now (args .file)) _ refl (single-section .ensures)) (check-cct .ensures)
+    (enum-told .given .1) in (
       rw (cct-shape .ensures) (inl refl, inr refl),
       bounded Format.cct (now (args .file)) (omega arith) opened 0 (omega arith) (Format.u32 8) (Format.held (Format.u8 12)) refl (omega arith) refl,
     )
@@ -41,8 +41,8 @@ returns c =
     let enum-told = c .before .before .before .enum-told in
     let all : List (List ℕ) → Totals = λ ps. totalsAt (now (args .file)) cctShape ps (args .context) (args .metric) in
     rw (totals-at .ensures, cct-shape .ensures)
-    (one-total (now (args .file)) cctShape _ (args .context) (args .metric) ∙ ap all (lone-section (now (args .file)) _ (single-section .ensures))
-    ∙ answers Format.cct (now (args .file)) (cct-pairs (now (args .file)) _ (single-section .ensures)) (check-cct .ensures) Refused all
+    (one-total (now (args .file)) cctShape _ (args .context) (args .metric) ∙ ap all (single-list (now (args .file)) (single-section .ensures))
+    ∙ answers Format.cct (now (args .file)) (single-pairs Format.cct (now (args .file)) _ refl (single-section .ensures)) (check-cct .ensures) Refused all
     (enum-told .given .1))
 
 returns-2 : tie.Need-returns-2
@@ -52,7 +52,7 @@ returns-2 c =
     let single-section = c .before .before .before .before .single-section in
     let check-cct = c .before .before .before .check-cct in
     let check = c .before .check in
-    refuses Format.cct _ (cct-pairs (now (args .file)) _ (single-section .ensures)) (check-cct .ensures) Refused _ _ (check .given .1)
+    refuses Format.cct _ (single-pairs Format.cct (now (args .file)) _ refl (single-section .ensures)) (check-cct .ensures) Refused _ _ (check .given .1)
 
 pub totals-spec : {M : Type 1} → statement M
 totals-spec =

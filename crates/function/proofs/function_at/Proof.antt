@@ -22,7 +22,8 @@ returns c =
     let check-meta = c .before .before .before .check-meta in
     let enum-told = c .before .enum-told in
     let file = args .file .now in
-    c .function-in .ensures ∙ answers meta file (meta-sections .ensures) (check-meta .ensures) Refused (λ ps. functionIn file ps (args .i)) (enum-told .given .1)
+    c .function-in .ensures ∙ answers meta file (meta-sections .ensures) (check-meta .ensures) Refused (λ ps. functionIn file ps (args .i))
+    (enum-told .given .1)
 
 returns-2 : tie.Need-returns-2
 unfolding functionAt

@@ -17,4 +17,5 @@ returns-2 c =
     c .u8-at .ensures ∙ sym (last (a .file .now) (a .at + a .offset) (p .place-in .result) (p .place-in .ensures) (omega arith))
 
 pub u16-at-spec : {M : Type 1} → statement M
-u16-at-spec = tie.close (tie.spec (λ c κs. search needs) (λ c. search needs) (λ c κs. search needs) returns (λ c κs. search needs) (λ c. search needs) returns-2)
+u16-at-spec = tie.close (tie.spec (λ c κs. search needs) (λ c. search needs) (λ c κs. search needs) returns (λ c κs. search needs)
+    (λ c. search needs) returns-2)

@@ -1,11 +1,11 @@
 -- By whether the file opens.
 use Rattle.block.specs.Block.{cctShape}
-use Rattle.lookup.proofs.Laws.{cct-pairs, one-lookup, lone-section}
+use Rattle.lookup.proofs.Laws.{one-lookup}
 use Rattle.lookup.specs.Lookup.{cctLookup, lookupAt}
 use Rattle.block.specs.declared.Lookup.the-variants.{Refused}
 use Rattle.block.specs.declared.Lookup.{Lookup}
 use Rattle.array.proofs.Bounds.{bounded}
-use Rattle.open.proofs.Answer.{answers, refuses, told-passed}
+use Rattle.open.proofs.Answer.{answers, refuses, told-passed, single-pairs, single-list}
 use Rattle.open.specs.Format as Format
 use Prim.Native.Nat.{ℕ}
 use mathlib.Core.List.{List}
@@ -24,7 +24,8 @@ lookup-at-requires c κs =
     let check-cct = c .before .before .before .before .check-cct in
     let enum-told = c .before .before .enum-told in
     let cct-shape = c .before .cct-shape in
-    let opened = told-passed Format.cct _ (cct-pairs (now (args .file)) _ (single-section .ensures)) (check-cct .ensures) (enum-told .given .1) in (
+    let opened = told-passed Format.cct _ (single-pairs Format.cct (now (args .file)) _ refl (single-section .ensures)) (check-cct .ensures)
+    (enum-told .given .1) in (
       rw (cct-shape .ensures) (inl refl, inr refl),
       bounded Format.cct (now (args .file)) (omega arith) opened 0 (omega arith) (Format.u32 8) (Format.held (Format.u8 12)) refl (omega arith) refl,
     )
@@ -40,8 +41,9 @@ returns c =
     let enum-told = c .before .before .before .enum-told in
     let look : List (List ℕ) → Lookup = λ ps. lookupAt (now (args .file)) cctShape ps (args .context) (args .metric) (args .profile) in
     rw (lookup-at .ensures, cct-shape .ensures)
-    (one-lookup (now (args .file)) cctShape _ (args .context) (args .metric) (args .profile) ∙ ap look (lone-section (now (args .file)) _ (single-section .ensures))
-    ∙ answers Format.cct (now (args .file)) (cct-pairs (now (args .file)) _ (single-section .ensures)) (check-cct .ensures) Refused look
+    (one-lookup (now (args .file)) cctShape _ (args .context) (args .metric) (args .profile) ∙ ap look
+    (single-list (now (args .file)) (single-section .ensures))
+    ∙ answers Format.cct (now (args .file)) (single-pairs Format.cct (now (args .file)) _ refl (single-section .ensures)) (check-cct .ensures) Refused look
     (enum-told .given .1))
 
 returns-2 : tie.Need-returns-2
@@ -51,7 +53,7 @@ returns-2 c =
     let single-section = c .before .before .before .before .single-section in
     let check-cct = c .before .before .before .check-cct in
     let check = c .before .check in
-    refuses Format.cct _ (cct-pairs (now (args .file)) _ (single-section .ensures)) (check-cct .ensures) Refused _ _ (check .given .1)
+    refuses Format.cct _ (single-pairs Format.cct (now (args .file)) _ refl (single-section .ensures)) (check-cct .ensures) Refused _ _ (check .given .1)
 
 pub cct-lookup-spec : {M : Type 1} → statement M
 cct-lookup-spec =

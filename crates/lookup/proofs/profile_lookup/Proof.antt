@@ -1,11 +1,10 @@
 -- By whether the file opens.
 use Rattle.block.specs.Block.{profileShape}
-use Rattle.lookup.proofs.Laws.{two-sections}
 use Rattle.lookup.specs.Lookup.{profileLookup, lookupAt}
 use Rattle.block.specs.declared.Lookup.the-variants.{Refused}
 use Rattle.block.specs.declared.Lookup.{Lookup}
 use Rattle.array.proofs.Bounds.{bounded}
-use Rattle.open.proofs.Answer.{answers, refuses, told-passed}
+use Rattle.open.proofs.Answer.{answers, refuses, told-passed, two-pairs}
 use Rattle.open.specs.Format as Format
 use Prim.Native.Nat.{ℕ}
 use mathlib.Core.List.{List}
@@ -40,7 +39,7 @@ returns c =
     let enum-told = c .before .before .before .before .enum-told in
     let look : List (List ℕ) → Lookup = λ ps. lookupAt (now (args .file)) profileShape ps (args .profile) (args .context) (args .metric) in
     rw (lookup-at .ensures, profile-shape .ensures)
-    (ap look (two-sections (now (args .file)) _ (profile-sections .ensures))
+    (ap look (two-pairs (now (args .file)) (profile-sections .ensures))
     ∙ answers Format.profile (now (args .file)) (profile-sections .ensures) (check-profile .ensures) Refused look (enum-told .given .1))
 
 returns-2 : tie.Need-returns-2

@@ -22,8 +22,11 @@ returns c =
         c .before .before .before .before .before .before .u32-at .ensures,
         d .u8-at .ensures,
       )
-          (answers meta file (d .before .before .before .before .before .before .meta-sections .ensures) (d .before .before .before .before .before .check-meta .ensures) (λ r. 0 ∷ 0 ∷ 0 ∷ 0 ∷ 0 ∷ []) (λ ps. countsIn file ps) (d .before .before .enum-told .given .1)),
-      code-is meta file (d .before .before .before .before .before .before .meta-sections .ensures) (d .before .before .before .before .before .check-meta .ensures) (d .before .before .before .before .code .ensures),
+          (answers meta file (d .before .before .before .before .before .before .meta-sections .ensures)
+          (d .before .before .before .before .before .check-meta .ensures) (λ r. 0 ∷ 0 ∷ 0 ∷ 0 ∷ 0 ∷ []) (λ ps. countsIn file ps)
+          (d .before .before .enum-told .given .1)),
+      code-is meta file (d .before .before .before .before .before .before .meta-sections .ensures)
+          (d .before .before .before .before .before .check-meta .ensures) (d .before .before .before .before .code .ensures),
     )
 
 returns-2 : tie.Need-returns-2
@@ -31,8 +34,11 @@ unfolding counts
 returns-2 c =
     let meta-sections = c .before .before .before .before .meta-sections in
     let check-meta = c .before .before .before .check-meta in
-    let code = c .before .before .code in
-    (refuses meta _ (meta-sections .ensures) (check-meta .ensures) (λ r. 0 ∷ 0 ∷ 0 ∷ 0 ∷ 0 ∷ []) _ _ (c .enum-told2 .given .1), code-is meta _ (meta-sections .ensures) (check-meta .ensures) (code .ensures))
+    let code = c .before .before .code in (
+      refuses meta _ (meta-sections .ensures) (check-meta .ensures) (λ r. 0 ∷ 0 ∷ 0 ∷ 0 ∷ 0 ∷ []) _ _ (c .enum-told2 .given .1),
+      code-is meta _
+          (meta-sections .ensures) (check-meta .ensures) (code .ensures),
+    )
 
 pub counts-spec : {M : Type 1} → statement M
 counts-spec =

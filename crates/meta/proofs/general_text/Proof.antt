@@ -16,7 +16,8 @@ returns c =
     let check-meta = c .before .before .before .before .before .check-meta in
     let enum-told = c .before .before .before .enum-told in
     let file = args .file .now in
-    c .string-of .ensures ∙ answers meta file (meta-sections .ensures) (check-meta .ensures) text.Refused (λ ps. generalIn file ps (args .offset)) (enum-told .given .1)
+    c .string-of .ensures ∙ answers meta file (meta-sections .ensures) (check-meta .ensures) text.Refused (λ ps. generalIn file ps (args .offset))
+    (enum-told .given .1)
 
 returns-2 : tie.Need-returns-2
 unfolding generalText

@@ -18,7 +18,8 @@ element-text-requires c κs =
     let check-meta = c .before .before .before .before .before .check-meta in
     let enum-told = c .before .before .before .enum-told in
     let of-names = c .before .of-names in
-    bounded meta (args .file .now) (omega arith) (told-passed meta _ (meta-sections .ensures) (check-meta .ensures) (enum-told .given .1)) 1 (omega arith) (u8 8) (fixed 8) refl (omega arith) (of-names .ensures)
+    bounded meta (args .file .now) (omega arith) (told-passed meta _ (meta-sections .ensures) (check-meta .ensures) (enum-told .given .1)) 1
+    (omega arith) (u8 8) (fixed 8) refl (omega arith) (of-names .ensures)
 
 returns : tie.Need-returns
 unfolding kindAt
@@ -29,7 +30,8 @@ returns c =
     let check-meta = c .before .before .before .before .before .before .check-meta in
     let enum-told = c .before .before .before .before .enum-told in
     let file = args .file .now in
-    rw (c .element-text .ensures, of-names .ensures) (answers meta file (meta-sections .ensures) (check-meta .ensures) text.Refused (λ ps. kindIn file ps (args .kind)) (enum-told .given .1))
+    rw (c .element-text .ensures, of-names .ensures) (answers meta file (meta-sections .ensures) (check-meta .ensures) text.Refused
+    (λ ps. kindIn file ps (args .kind)) (enum-told .given .1))
 
 returns-2 : tie.Need-returns-2
 unfolding kindAt

@@ -18,7 +18,8 @@ element-text-requires c κs =
     let check-meta = c .before .before .before .before .before .check-meta in
     let enum-told = c .before .before .before .enum-told in
     let of-specs = c .before .of-specs in
-    bounded meta (args .file .now) (omega arith) (told-passed meta _ (meta-sections .ensures) (check-meta .ensures) (enum-told .given .1)) 5 (omega arith) (u32 8) (held (u16 12)) refl (omega arith) (of-specs .ensures)
+    bounded meta (args .file .now) (omega arith) (told-passed meta _ (meta-sections .ensures) (check-meta .ensures) (enum-told .given .1)) 5
+    (omega arith) (u32 8) (held (u16 12)) refl (omega arith) (of-specs .ensures)
 
 returns : tie.Need-returns
 unfolding moduleAt
@@ -29,7 +30,8 @@ returns c =
     let check-meta = c .before .before .before .before .before .before .check-meta in
     let enum-told = c .before .before .before .before .enum-told in
     let file = args .file .now in
-    rw (c .element-text .ensures, of-specs .ensures) (answers meta file (meta-sections .ensures) (check-meta .ensures) text.Refused (λ ps. moduleIn file ps (args .i)) (enum-told .given .1))
+    rw (c .element-text .ensures, of-specs .ensures) (answers meta file (meta-sections .ensures) (check-meta .ensures) text.Refused
+    (λ ps. moduleIn file ps (args .i)) (enum-told .given .1))
 
 returns-2 : tie.Need-returns-2
 unfolding moduleAt

@@ -26,7 +26,8 @@ returns c =
     let enum-told = c .before .before .before .enum-told in
     let file = args .file .now in
     rw (c .metric-of .ensures, metric-nested .ensures .0)
-    (answers meta file (meta-sections .ensures) (check-meta .ensures) metric.Refused (λ ps. metricOf file (getD ps 2 []) (metricNested file ps (args .m))) (enum-told .given .1))
+    (answers meta file (meta-sections .ensures) (check-meta .ensures) metric.Refused
+    (λ ps. metricOf file (getD ps 2 []) (metricNested file ps (args .m))) (enum-told .given .1))
 
 returns-2 : tie.Need-returns-2
 unfolding metricAt

@@ -26,7 +26,8 @@ returns c =
     let enum-told = c .before .before .before .enum-told in
     let file = args .file .now in
     rw (c .scope-of .ensures, scope-nested .ensures .0)
-    (answers meta file (meta-sections .ensures) (check-meta .ensures) scope.Refused (λ ps. scopeOf file (getD ps 2 []) (scopeNested file ps (args .m) (args .s))) (enum-told .given .1))
+    (answers meta file (meta-sections .ensures) (check-meta .ensures) scope.Refused
+    (λ ps. scopeOf file (getD ps 2 []) (scopeNested file ps (args .m) (args .s))) (enum-told .given .1))
 
 returns-2 : tie.Need-returns-2
 unfolding scopeAt

@@ -19,8 +19,11 @@ returns c =
     let metric-nested = c .before .before .before .before .before .before .before .metric-nested in
     let metric = c .before .before .before .before .before .metric in
     let args = c .before .before .before .before .before .before .before .before .before .args in
-    let pre = c .before .before .before .before .before .before .before .before .before .pre in
-    (rw (c .nested-at .ensures, u8-at .ensures, ← metric-nested .ensures .0, metric .given .1), nested-bounded (args .file .now) (omega arith) pre _ _ _ (c .nested-at .ensures))
+    let pre = c .before .before .before .before .before .before .before .before .before .pre in (
+      rw (c .nested-at .ensures, u8-at .ensures, ← metric-nested .ensures .0, metric .given .1),
+      nested-bounded (args .file .now) (omega arith) pre _ _
+          _ (c .nested-at .ensures),
+    )
 
 returns-2 : tie.Need-returns-2
 unfolding onNested

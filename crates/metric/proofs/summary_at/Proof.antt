@@ -29,7 +29,8 @@ returns c =
     let enum-told = c .before .before .before .enum-told in
     let file = args .file .now in
     rw (c .summary-of .ensures, scope-nested .ensures .0)
-    (answers meta file (meta-sections .ensures) (check-meta .ensures) summary.Refused (λ ps. summaryOf file (getD ps 2 []) (scopeNested file ps (args .m) (args .s)) (args .k)) (enum-told .given .1))
+    (answers meta file (meta-sections .ensures) (check-meta .ensures) summary.Refused
+    (λ ps. summaryOf file (getD ps 2 []) (scopeNested file ps (args .m) (args .s)) (args .k)) (enum-told .given .1))
 
 returns-2 : tie.Need-returns-2
 unfolding summaryAt

@@ -462,7 +462,13 @@ visit-array-requires t c κs =
     let falls = falls-down (2 ^ 64) 201 (args .depth) (load-u642 .result) (load-u64 .result) (args .p) (args .stop) t (pre .0)
     (omega (arith, kept .shallow)) (omega arith) (omega (arith, ended)) in (
       falls,
-      (omega (arith, kept .children .after some, place), omega (arith, kept .children .inside some, size, place, pre .1 .3), pre .1 .3, omega (arith, kept .shallow)),
+      (
+        omega (arith, kept .children .after some, place),
+        omega (arith, kept .children .inside some, size, place, pre .1 .3),
+        pre .1 .3,
+        omega
+            (arith, kept .shallow),
+      ),
     )
 
 visit-same-length-6 : (t : ℕ) → visit-lts.Need-same-length-6 (visit-calls t) (visit-at t) visit.Post

@@ -2,7 +2,7 @@
 use Prim.Native.Nat.{_/_}
 use denote.Ref.{now}
 use lib.ListN.{length}
-use Rattle.walk.specs.State.{ifRoom}
+use Rattle.refusal.specs.Check.{either}
 use borrow.Author.Tests.{lt-ltb, le-ltb}
 use native.Mathlib.Omega.{arith}
 use borrow.Author.Needs.{needs}
@@ -10,14 +10,14 @@ use Rattle.walk.proofs.put_record.Statement.{statement}
 use Rattle.walk.proofs.put_record.Tie as tie
 
 returns : tie.Need-returns
-unfolding ifRoom
+unfolding either
 returns c =
     let args = c .before .before .before .args in
     let if1 = c .if1 in
     λ parent path d. rw (le-ltb (args .n) (length (now (args .records)) / 11) (if1 .taken))
 
 returns-2 : tie.Need-returns-2
-unfolding ifRoom
+unfolding either
 returns-2 c =
     let args = c .before .before .before .before .before .before .before .before .before .args in
     let if1 = c .before .before .before .before .before .before .if1 in

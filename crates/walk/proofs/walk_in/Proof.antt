@@ -31,7 +31,8 @@ add-end c =
     let good = c .before .before .before .before .before .before .before .before .before .before .before .before .before .good in
     omega (
       arith,
-      roots-lie (now (args .file)) (now (args .listing)) (now (args .table)) (now (args .records)) pre (targetsIn (targets-of .result)) (targets-of .ensures) (u64-at2 .result) (u64-at .result) (u64-at2 .ensures) (u64-at .ensures) (omega (arith, if1 .left)),
+      roots-lie (now (args .file)) (now (args .listing)) (now (args .table)) (now (args .records)) pre (targetsIn (targets-of .result))
+          (targets-of .ensures) (u64-at2 .result) (u64-at .result) (u64-at2 .ensures) (u64-at .ensures) (omega (arith, if1 .left)),
       good,
     )
 

@@ -1,0 +1,126 @@
+-- What the tests of a line say, and that a line which passed them has its samples in the file, in order.
+use Prim.Native.Nat.{ℕ, _+_, _-_, _*_, _/_, _%_, _≤_, _<_}
+use mathlib.Core.Bool.{Bool, true, false, _&&_, and-false}
+use mathlib.Core.List.{List, [], _∷_}
+use mathlib.Core.Path.{_≡_, refl, sym, ap, _∙_}
+use native.Mathlib.Nat.{mul-one}
+use native.Mathlib.Omega.{arith}
+use borrow.Author.Tests.{leb-true, leb-false, le-leb, lt-leb, ltb-true, lt-ltb, le-ltb}
+use lib.Dec.{ltb, leb}
+use lib.ListN.{length}
+use Rattle.range.specs.Range.{multiple}
+use Rattle.range.proofs.Tests.{both}
+use Rattle.refusal.specs.declared.Refusal.the-variants as No
+use Rattle.refusal.specs.declared.Check.{Check}
+use Rattle.refusal.specs.declared.Check.the-variants as Check
+use Rattle.refusal.specs.Check.{rule, first, ifPassed}
+use Rattle.refusal.proofs.Checks.{rule-passes, first-passes}
+use Rattle.open.specs.Format as Format
+use Rattle.open.specs.Opening.{opening, pairs, placeIn}
+use Rattle.array.specs.declared.Element.{Element}
+use Rattle.array.specs.declared.Element.the-variants as Element
+use Rattle.array.specs.Element.{elementAt, onElement}
+use Rattle.array.specs.Stored.{infosArray}
+use Rattle.outside.specs.Outside.{lies}
+use Rattle.outside.proofs.Apart.{lies-ends, lies-one}
+use Rattle.seq.specs.Sequence.{rises}
+use Rattle.seq.proofs.Rising.{rises-nondecreasing}
+use Rattle.le.specs.Number.{number}
+use Rattle.trace.specs.declared.Line.{Line}
+use Rattle.trace.specs.declared.Line.the-variants.{Of, Refused}
+use Rattle.trace.specs.Trace.{timeAt, lineRule, samplesOf, leastGap, lineCheck, lineOf, lineIn, lineAt, sampleIn, Samples, Ordered}
+use Rattle.trace.specs.declared.Sample.the-variants as Sample
+
+-- a gap is compared with the difference
+pub leb-shift : (time last gap : ℕ) → last ≤ time → leb gap (time - last) ≡ leb (last + gap) time
+leb-shift time last gap l = go (leb gap (time - last)) refl
+  where
+    go : (t : Bool) → leb gap (time - last) ≡ t → t ≡ leb (last + gap) time
+    go true e = sym (le-leb (last + gap) time (omega (arith, leb-true gap (time - last) e)))
+    go false e = sym (lt-leb (last + gap) time (omega (arith, leb-false gap (time - last) e)))
+
+module _ (file : List ℕ) (sections : List (List ℕ)) (start end : ℕ) where
+  pub rule-backwards : end < start → lineRule file sections start end ≡ false
+  unfolding lineRule
+  rule-backwards l = rw (lt-leb start end l) (and-false (multiple start 8 && multiple end 4))
+
+  pub rule-forwards : lineRule file sections start end ≡ true → start ≤ end
+  unfolding lineRule
+  rule-forwards e =
+      let p = both (multiple start 8 && multiple end 4) _ .0 e .1 in
+      let q = both (leb start end && multiple (end - start) 12) _ .0 p in
+      leb-true start end (both (leb start end) _ .0 (q .0) .0)
+
+  pub rule-ends : lineRule file sections start end ≡ true → Samples file start (samplesOf start end)
+  unfolding lineRule
+  rule-ends e =
+      let p = both (multiple start 8 && multiple end 4) _ .0 e .1 in
+      let q = both (leb start end && multiple (end - start) 12) _ .0 p in
+      record { room = omega (arith, lies-ends file sections (Format.trace .header) start (end - start) (q .1)) }
+
+  pub range-broken : lineRule file sections start end ≡ false → (profile : ℕ) → Refused No.Array ≡ lineOf file sections profile start end
+  unfolding lineOf lineCheck rule first ifPassed
+  range-broken e profile = rw e
+
+  module _ (e : lineRule file sections start end ≡ true) (profile : ℕ) where
+    pub order-broken : rises 0 leastGap (timeAt file start) (samplesOf start end) ≡ false → Refused No.Order ≡ lineOf file sections profile start end
+    unfolding lineOf lineCheck rule first ifPassed
+    order-broken f = rw (e, f)
+
+    pub rules-kept : rises 0 leastGap (timeAt file start) (samplesOf start end) ≡ true
+        → Of profile start (samplesOf start end) ≡ lineOf file sections profile start end
+    unfolding lineOf lineCheck rule first ifPassed
+    rules-kept f = rw (e, f)
+
+pub rule-start : (file : List ℕ) (section : List ℕ) (start end : ℕ) → start ≤ end
+    → ((multiple start 8 && multiple end 4) && (multiple (end - start) 12 && lies file 32 (section ∷ (0 ∷ 0 ∷ []) ∷ []) start ((end - start) * 1)))
+    ≡ lineRule file (section ∷ []) start end
+unfolding lineRule
+rule-start file section start end l = rw (le-leb start end l, mul-one, lies-one)
+
+-- ---- a line that is answered
+
+tag : Line → ℕ
+tag (Of profile place samples) = 1
+tag (Refused r) = 0
+
+place-of : Line → ℕ
+place-of (Of profile place samples) = place
+place-of (Refused r) = 0
+
+samples-of : Line → ℕ
+samples-of (Of profile place samples) = samples
+samples-of (Refused r) = 0
+
+module _ (file : List ℕ) (sections : List (List ℕ)) (profile place samples : ℕ) where
+  of-ordered : (number start end : ℕ) → lineOf file sections number start end ≡ Of profile place samples → Ordered file place samples
+  unfolding lineOf ifPassed tag place-of samples-of lineCheck
+  of-ordered number start end = go (lineCheck file sections start end) refl
+    where
+      go : (c : Check) → lineCheck file sections start end ≡ c → ifPassed Refused c (Of number start (samplesOf start end)) ≡ Of profile place samples
+          → Ordered file place samples
+      go Check.Passed p e =
+          let t = first-passes (rule (lineRule file sections start end) No.Array)
+          (rule (rises 0 leastGap (timeAt file start) (samplesOf start end)) No.Order) .0 p in
+          rw (← ap place-of e, ← ap samples-of e)
+          (record {
+            samples = rule-ends file sections start end (rule-passes (lineRule file sections start end) No.Array .0 (t .0));
+            times = rises-nondecreasing 0 leastGap (timeAt file start) (samplesOf start end) (rule-passes _ No.Order .0 (t .1));
+          })
+      go (Check.Refused r) p e = absurd (omega (arith, ap tag e))
+
+  element-ordered : (e : Element)
+      → onElement Refused e (λ at. lineOf file sections (number 4 file at) (number 8 file (at + 8)) (number 8 file (at + 16))) ≡ Of profile place samples
+      → Ordered file place samples
+  unfolding onElement tag
+  element-ordered (Element.At at) e = of-ordered (number 4 file at) (number 8 file (at + 8)) (number 8 file (at + 16)) e
+  element-ordered (Element.Refused r) e = absurd (omega (arith, ap tag e))
+
+pub line-ordered : (file : List ℕ) (i profile place samples : ℕ) → lineAt file i ≡ Of profile place samples → Ordered file place samples
+unfolding lineAt lineIn ifPassed tag
+line-ordered file i profile place samples = go (opening Format.trace file)
+  where
+    go : (c : Check) → ifPassed Refused c (lineIn file (pairs Format.trace file) i) ≡ Of profile place samples → Ordered file place samples
+    go Check.Passed e =
+        element-ordered file (pairs Format.trace file) profile place samples (elementAt (infosArray file (placeIn (pairs Format.trace file) 0)) i) e
+    go (Check.Refused r) e = absurd (omega (arith, ap tag e))

@@ -1,0 +1,60 @@
+-- By whether the file opens.
+use Rattle.trace.specs.Trace.{lineIn, lineAt}
+use Rattle.trace.specs.declared.Line.{Line}
+use Rattle.trace.specs.declared.Line.the-variants.{Refused}
+use Rattle.array.proofs.Bounds.{bounded}
+use Rattle.open.proofs.Answer.{answers, refuses, told-passed, single-pairs, single-list}
+use Rattle.open.specs.Format as Format
+use Prim.Native.Nat.{ℕ}
+use mathlib.Core.List.{List}
+use mathlib.Core.Path.{refl, ap, _∙_}
+use native.Mathlib.Omega.{arith}
+use denote.Ref.{now}
+use borrow.Author.Needs.{needs}
+use Rattle.trace.proofs.line_at.Statement.{statement}
+use Rattle.trace.proofs.line_at.Tie as tie
+
+line-in-requires : tie.Need-line-in-requires
+line-in-requires c κs =
+    let args = c .before .before .before .before .before .before .args in
+    let single-section = c .before .before .before .before .single-section in
+    let check-trace = c .before .before .before .check-trace in
+    let enum-told = c .before .enum-told in
+    bounded Format.trace (now (args .file)) (omega arith) (told-passed Format.trace _
+    (single-pairs Format.trace (now (args .file)) _ refl (single-section .ensures)) (check-trace .ensures) (enum-told .given .1)) 0 (omega arith)
+    (Format.u32 8) (Format.held (Format.u8 12)) refl (omega arith) refl
+
+returns : tie.Need-returns
+unfolding lineAt
+returns c =
+    let args = c .before .before .before .before .before .before .before .args in
+    let line-in = c .line-in in
+    let single-section = c .before .before .before .before .before .single-section in
+    let check-trace = c .before .before .before .before .check-trace in
+    let enum-told = c .before .before .enum-told in
+    let line : List (List ℕ) → Line = λ ps. lineIn (now (args .file)) ps (args .i) in
+    line-in .ensures ∙ ap line (single-list (now (args .file)) (single-section .ensures))
+    ∙ answers Format.trace (now (args .file)) (single-pairs Format.trace (now (args .file)) _ refl (single-section .ensures))
+    (check-trace .ensures) Refused line (enum-told .given .1)
+
+returns-2 : tie.Need-returns-2
+unfolding lineAt
+returns-2 c =
+    let args = c .before .before .before .before .before .before .args in
+    let single-section = c .before .before .before .before .single-section in
+    let check-trace = c .before .before .before .check-trace in
+    let check = c .before .check in
+    refuses Format.trace _ (single-pairs Format.trace (now (args .file)) _ refl (single-section .ensures)) (check-trace .ensures) Refused _ _ (check .given .1)
+
+pub line-at-spec : {M : Type 1} → statement M
+line-at-spec =
+    tie.close
+    (tie.spec
+    (λ c κs. search needs)
+    (λ c κs. search needs)
+    (λ c. search needs)
+    (λ c. search needs)
+    line-in-requires
+    (λ c. search needs)
+    returns
+    returns-2)

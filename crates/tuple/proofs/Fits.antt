@@ -1,0 +1,90 @@
+-- A tuple that keeps its rule ends in the file, so that the places of its identifications are u64.
+use Prim.Native.Nat.{ℕ, _+_, _*_, _^_, _≤_, _<_}
+use mathlib.Core.Bool.{Bool, true, false, _&&_}
+use mathlib.Core.List.{List, [], _∷_}
+use mathlib.Core.Path.{_≡_, refl, sym, ap, _∙_}
+use native.Mathlib.Nat.{add-zero, mul-one, mul-comm}
+use native.Mathlib.Omega.{arith}
+use lib.ListN.{length, getD}
+use Rattle.le.specs.Number.{number}
+use Rattle.range.specs.Range.{within, multiple}
+use Rattle.range.proofs.Tests.{both, within-iff}
+use Rattle.refusal.specs.declared.Refusal.the-variants as No
+use Rattle.refusal.specs.declared.Check.{Check}
+use Rattle.refusal.specs.declared.Check.the-variants as Check
+use Rattle.refusal.specs.Check.{rule, ifPassed}
+use Rattle.open.specs.Format as Format
+use Rattle.open.specs.Opening.{opening, pairs, placeIn, sizeIn}
+use Rattle.open.specs.Kept.{Sections}
+use Rattle.open.proofs.Keeps.{opens-iff}
+use Rattle.open.proofs.Inside.{section-inside}
+use Rattle.array.specs.declared.Array.{Array}
+use Rattle.array.specs.declared.Element.{Element}
+use Rattle.array.specs.declared.Element.the-variants as Element
+use Rattle.array.specs.Element.{elementAt, onElement, Bounded}
+use Rattle.array.specs.Stored.{infosArray}
+use Rattle.tuple.specs.declared.Tuple.{Tuple}
+use Rattle.tuple.specs.declared.Tuple.the-variants.{Of, Refused}
+use Rattle.tuple.specs.Tuple.{identifiers, tupleRule, tupleOf, tupleIn, tupleAt, Inside}
+
+tag : Tuple → ℕ
+tag (Of a) = 1
+tag (Refused r) = 0
+
+array-of : Tuple → Array → Array
+array-of (Of a) other = a
+array-of (Refused r) other = other
+
+module _ (file : List ℕ) (place size at : ℕ) where
+  pub rule-kept : tupleRule file place size at ≡ true → Of (identifiers file at) ≡ tupleOf file place size at
+  unfolding tupleOf rule ifPassed
+  rule-kept e = rw e
+
+  pub rule-broken : tupleRule file place size at ≡ false → Refused No.Array ≡ tupleOf file place size at
+  unfolding tupleOf rule ifPassed
+  rule-broken e = rw e
+
+  -- what the code tests
+  pub rule-told : {n : ℕ} {m f : Bool} → n ≡ number 2 file (at + 0) → m ≡ multiple at 8 → f ≡ within (place + 0) (place + size) at ((8 + 16 * n) * 1)
+      → (m && f) ≡ tupleRule file place size at
+  unfolding tupleRule
+  rule-told p q r = rw (q, r, p, mul-one, add-zero, add-zero)
+
+  module _ (i : 0 < size → place + size ≤ length file) where
+    pub fits : tupleRule file place size at ≡ true → at + (8 + 16 * number 2 file at) ≤ length file
+    unfolding tupleRule
+    fits e =
+        let w = within-iff place (place + size) at (8 + 16 * number 2 file at) .0 (both (multiple at 8) _ .0 e .1) in
+        omega (arith, w .0, w .1, i (omega (arith, w .0, w .1)))
+
+    of-bounded : length file < 2 ^ 64 → (a : Array) → tupleOf file place size at ≡ Of a → Bounded a
+    unfolding tag array-of identifiers
+    of-bounded l a e = go (tupleRule file place size at) refl
+      where
+        go : (t : Bool) → tupleRule file place size at ≡ t → Bounded a
+        go true r =
+            rw (← ap (λ (x : Tuple). array-of x a) (rule-kept r ∙ e))
+            (record { ends = λ c. omega (arith, fits r, mul-comm (number 2 file at) 16) })
+        go false r = absurd (omega (arith, ap tag (rule-broken r ∙ e)))
+
+module _ (file : List ℕ) (l : length file < 2 ^ 64) (profile : ℕ) (a : Array) where
+  element-bounded : opening Format.profile file ≡ Check.Passed → (e : Element)
+      → onElement Refused e (λ at. tupleOf file (placeIn (pairs Format.profile file) 1) (sizeIn (pairs Format.profile file) 1)
+      (number 8 file (at + 32))) ≡ Of a → Bounded a
+  unfolding onElement tag
+  element-bounded p (Element.At at) e =
+      of-bounded file _ _ (number 8 file (at + 32)) (λ h. omega
+      (arith, section-inside Format.profile file (opens-iff Format.profile file .0 p) 1 (omega arith) h)) l a e
+  element-bounded p (Element.Refused r) e = absurd (omega (arith, ap tag e))
+
+  pub tuple-bounded : tupleAt file profile ≡ Of a → Bounded a
+  unfolding tupleAt tupleIn ifPassed tag
+  tuple-bounded = go (opening Format.profile file) refl
+    where
+      go : (c : Check) → opening Format.profile file ≡ c → ifPassed Refused c (tupleIn file (pairs Format.profile file) profile) ≡ Of a → Bounded a
+      go Check.Passed p e = element-bounded p (elementAt (infosArray file (placeIn (pairs Format.profile file) 0)) profile) e
+      go (Check.Refused r) p e = absurd (omega (arith, ap tag e))
+
+-- what opening gives of the section of tuples
+pub tuples-inside : (file : List ℕ) {ps : List (List ℕ)} → Sections Format.profile file ps → Inside file (getD ps 1 [])
+tuples-inside file o = rw (o .same) (λ h. omega (arith, section-inside Format.profile file (opens-iff Format.profile file .0 (o .passed)) 1 (omega arith) h))
