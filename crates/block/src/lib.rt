@@ -248,7 +248,7 @@ pub fn check(file: &[u8], h: Shape, one: [u64; 2], other: [u64; 2], b: Block) ->
 }
 
 // Where a key is among the n ids of an array, by halving.
-fn position(file: &[u8], at: u64, w: u64, n: u64, key: u64) -> Position
+fn search(file: &[u8], at: u64, w: u64, n: u64, key: u64) -> Position
     requires { ⌜ Array (now file) at w n ⌝ }
     requires { ⌜ Sorted (idAt w (now file) at) n ⌝ }
     ensures { λ r. ⌜ r ≡ position (idAt w (now (file .entry)) at) key n ⌝ }
@@ -271,6 +271,18 @@ fn position(file: &[u8], at: u64, w: u64, n: u64, key: u64) -> Position
     } else {
         Position::Nowhere
     }
+}
+
+// The same. Each width is a loop of its own, whose stride is a constant.
+fn position(file: &[u8], at: u64, w: u64, n: u64, key: u64) -> Position
+    requires { ⌜ Array (now file) at w n ⌝ }
+    requires { ⌜ Sorted (idAt w (now file) at) n ⌝ }
+    ensures { λ r. ⌜ r ≡ position (idAt w (now (file .entry)) at) key n ⌝ }
+{
+    if w == 2 {
+        return search(file, at, 2, n, key);
+    }
+    search(file, at, 4, n, key)
 }
 
 // Where the index of an outer id is.

@@ -17,7 +17,7 @@ use Rattle.traversal.specs.Walk.{truncate, walkOf, walkedOf, walkedWords}
 use Rattle.seq.specs.Sequence.{every, floor, rises, hereOr, position}
 use Rattle.outside.specs.Outside.{apart, apartAll, lies}
 use Rattle.block.specs.Block.{blockAt, idAt, wordAt, rangeRule, startOf, endOr, endOf, partOf, partAt, orderRule, blockCheck, valueAt, inPart, indexOf, lookupIn, lookupWords}
-use Rattle.lookup.specs.Lookup.{checkedBlock, checkedAt, onChecked, lookupAt, profileLookup}
+use Rattle.lookup.specs.Lookup.{checkedBlock, checkedAt, onChecked, profileBlock, profileLookup}
 use Rattle.cases.specs.W.{parts, w, built, magic, common}
 use Rattle.cases.specs.B.{three, five, bParts, b}
 use Rattle.cases.specs.Flex.{flexParts, flexFile, aModule, aFile, aFunction}
@@ -65,5 +65,5 @@ pub cases : _≡_ {A = List (List ℕ)}
     ∷ (11 ∷ 0 ∷ [])
     ∷ (11 ∷ 0 ∷ [])
     ∷ [])
-unfolding parts w built join fields bytes magic common flexParts flexFile number starts stands rule first ifPassed placeFor pairAt pairsFrom pairs sectionRule strideRule arrayRule contextsRule field numberAt strideRules contentRule headerRule frontRules inOrder sectionCheck headerCheck openingWith opening linkedBelow linked arrayOf bit oneMore present before words extent ifPresent flexAt contextRule linkRule linksRule childrenRule pointerCheck contextCheck targetsOf entryAt seen slotCheck visitCheck enter visit bind turn siblings level fromRoots traversal either truncate walkOf walkedOf walkedWords bParts b elementIf elementAt onElement every floor rises hereOr position blockAt idAt wordAt apart apartAll lies rangeRule startOf endOr endOf partOf partAt orderRule blockCheck valueAt inPart indexOf lookupIn lookupWords checkedBlock checkedAt onChecked lookupAt profileLookup
+unfolding parts w built join fields bytes magic common flexParts flexFile number starts stands rule first ifPassed placeFor pairAt pairsFrom pairs sectionRule strideRule arrayRule contextsRule field numberAt strideRules contentRule headerRule frontRules inOrder sectionCheck headerCheck openingWith opening linkedBelow linked arrayOf bit oneMore present before words extent ifPresent flexAt contextRule linkRule linksRule childrenRule pointerCheck contextCheck targetsOf entryAt seen slotCheck visitCheck enter visit bind turn siblings level fromRoots traversal either truncate walkOf walkedOf walkedWords bParts b elementIf elementAt onElement every floor rises hereOr position blockAt idAt wordAt apart apartAll lies rangeRule startOf endOr endOf partOf partAt orderRule blockCheck valueAt inPart indexOf lookupIn lookupWords checkedBlock checkedAt onChecked profileBlock profileLookup
 cases = refl

@@ -1,9 +1,6 @@
 -- Totals over one context and metric of cct.db: of the sub-array of the metric in the context's block.
 use Prim.Native.Nat.{ℕ}
 use mathlib.Core.List.{List}
-use Rattle.refusal.specs.Check.{ifPassed}
-use Rattle.open.specs.Format as Format
-use Rattle.open.specs.Opening.{pairs, opening}
 use Rattle.seq.specs.declared.Position.{Position}
 use Rattle.seq.specs.declared.Position.the-variants.{At, Nowhere}
 use Rattle.total.specs.declared.Totals.{Totals}
@@ -13,7 +10,7 @@ use Rattle.block.specs.declared.Shape.{Shape}
 use Rattle.block.specs.declared.Block.{Block}
 use Rattle.block.specs.declared.Part.{Part}
 use Rattle.block.specs.Block.{cctShape, idAt, wordAt, partAt, indexOf}
-use Rattle.lookup.specs.Lookup.{checkedAt, onChecked}
+use Rattle.lookup.specs.Lookup.{cctBlock, onChecked}
 
 -- of a sub-array: its ids, and the bits beside them
 unfoldable pub partTotals : List ℕ → Shape → Part → Totals
@@ -27,8 +24,5 @@ atIndex file h b Nowhere = Absent
 unfoldable pub totalsIn : List ℕ → Shape → Block → (outer : ℕ) → Totals
 totalsIn file h b outer = atIndex file h b (indexOf file h b outer)
 
-unfoldable pub totalsAt : List ℕ → Shape → (sections : List (List ℕ)) → (i outer : ℕ) → Totals
-totalsAt file h sections i outer = onChecked Refused (checkedAt file h sections i) (λ b. totalsIn file h b outer)
-
 unfoldable pub cctTotals : List ℕ → (context metric : ℕ) → Totals
-cctTotals file context metric = ifPassed Refused (opening Format.cct file) (totalsAt file cctShape (pairs Format.cct file) context metric)
+cctTotals file context metric = onChecked Refused (cctBlock file context) (λ b. totalsIn file cctShape b metric)

@@ -1,16 +1,11 @@
 // Totals over one context and metric of cct.db.
-ghost use mathlib.Core.List.{[], _∷_};
 ghost use mathlib.Core.Path.{_≡_};
-ghost use lib.ListN.{getD};
-ghost use Rattle.array.specs.Element.{Bounded};
-ghost use Rattle.array.specs.Stored.{infosArray};
-ghost use Rattle.block.specs.Block.{Widths, Valid, SubArray};
-ghost use Rattle.cct.specs.Totals.{partTotals, totalsIn, totalsAt, cctTotals};
+ghost use Rattle.block.specs.Block.{Valid, SubArray};
+ghost use Rattle.cct.specs.Totals.{partTotals, totalsIn, cctTotals};
 use block::Block;
 use block::Part;
 use block::Shape;
 use lookup::Checked;
-use refusal::Check;
 use refusal::Refusal;
 use seq::Position;
 use total::Totals;
@@ -48,28 +43,16 @@ pub fn totals_in(file: &[u8], h: Shape, b: Block, outer: u64) -> Totals
     part_totals(file, h, block::part_at(file, h, b, i))
 }
 
-fn totals_at(file: &[u8], h: Shape, one: [u64; 2], other: [u64; 2], i: u64, outer: u64) -> Totals
-    requires { ⌜ Widths h ⌝ }
-    requires { ⌜ Bounded (infosArray (now file) (getD one 0 0)) ⌝ }
-    ensures { λ r. ⌜ r ≡ totalsAt (now (file .entry)) h (one ∷ other ∷ []) i outer ⌝ }
-{
-    let checked = lookup::checked_at(file, h, one, other, i);
-    match checked {
-        Checked::Valid(b) => totals_in(file, h, b, outer),
-        Checked::Refused(r) => Totals::Refused(r),
-    }
-}
-
+// Over one context and metric.
 pub fn totals(file: &[u8], context: u64, metric: u64) -> Totals
     ensures { λ r. ⌜ r ≡ cctTotals (now (file .entry)) context metric ⌝ }
 {
-    let sections = open::single_section(file);
-    let check = open::check_cct(file, sections);
-    match check {
-        Check::Passed => {
+    let checked = lookup::cct_block(file, context);
+    match checked {
+        Checked::Valid(b) => {
             let h = block::cct_shape();
-            totals_at(file, h, sections[0], [0; 2], context, metric)
+            totals_in(file, h, b, metric)
         }
-        Check::Refused(r) => Totals::Refused(r),
+        Checked::Refused(r) => Totals::Refused(r),
     }
 }

@@ -48,10 +48,14 @@ functionIn file ps i =
 unfoldable pub functionAt : List ℕ → (i : ℕ) → Function
 functionAt file i = ifPassed Refused (opening meta file) (functionIn file (pairs meta file) i)
 
--- an answer in words: its number, then its values
+-- an answer in words: its number, 1 if there is no name, then its values
+unfoldable pub noName : (name : ℕ) → ℕ
+noName zero = 1
+noName (suc n) = 0
+
 unfoldable pub functionWords : Function → List ℕ
-functionWords (Found name length pModule offset pFile line) = 0 ∷ name ∷ length ∷ pModule ∷ offset ∷ pFile ∷ line ∷ []
-functionWords (Refused r) = numberOf r ∷ 0 ∷ 0 ∷ 0 ∷ 0 ∷ 0 ∷ 0 ∷ []
+functionWords (Found name length pModule offset pFile line) = 0 ∷ noName name ∷ name ∷ length ∷ pModule ∷ offset ∷ pFile ∷ line ∷ []
+functionWords (Refused r) = numberOf r ∷ 0 ∷ 0 ∷ 0 ∷ 0 ∷ 0 ∷ 0 ∷ 0 ∷ []
 
 -- ---- the name as bytes: a part of the file, or the placeholder, whole, exactly if there is no name; and which of them:
 -- 0 the file's, 100 the placeholder, else the refusal's number, without bytes

@@ -1,36 +1,23 @@
--- Every refusal's number is small; a value by whether there is room for it.
+-- A value by whether there is room for it; sections and counts by whether the file opens.
 use Prim.Native.Nat.{ℕ, _≤_, _<_}
-use mathlib.Core.List.{List}
-use mathlib.Core.Path.{_≡_, sym}
+use mathlib.Core.List.{List, [], _∷_}
+use mathlib.Core.Path.{_≡_, refl, sym}
 use native.Mathlib.Omega.{arith}
 use borrow.Author.Tests.{le-leb, lt-leb}
 use lib.Dec.{leb}
 use lib.ListN.{length}
-use Rattle.refusal.specs.declared.Refusal.{Refusal}
 use Rattle.refusal.specs.declared.Refusal.the-variants as No
-use Rattle.refusal.specs.Check.{either}
+use Rattle.refusal.specs.Check.{either, codeOf, ifPassed}
 use Rattle.refusal.specs.Number.{numberOf}
+use Rattle.refusal.specs.declared.Check.{Check}
+use Rattle.refusal.specs.declared.Check.the-variants.{Passed, Refused}
+use Rattle.open.specs.Format.{meta}
+use Rattle.open.specs.Opening.{opening, pairAt, pairsFrom, pairs, placeIn, sizeIn}
+use Rattle.meta.specs.Names.{counts}
+use Rattle.words.specs.Convention.{codeIn, wordsIn, flat, openWords, countsWords}
+use Rattle.words.proofs.Laws.{small, positive, refused}
 use Rattle.block.specs.declared.Lookup.{Lookup}
 use Rattle.hpcdb.specs.Value.{lookupCode, valueIn, valueCode, valueBytes}
-
-pub small : (r : Refusal) → numberOf r ≤ 17
-small No.Short = omega arith
-small No.Magic = omega arith
-small No.Version = omega arith
-small No.Footer = omega arith
-small No.Section = omega arith
-small No.Stride = omega arith
-small No.Array = omega arith
-small No.String = omega arith
-small No.Link = omega arith
-small No.Context = omega arith
-small No.Order = omega arith
-small No.Deep = omega arith
-small No.Slot = omega arith
-small No.Twice = omega arith
-small No.Index = omega arith
-small No.NotFinite = omega arith
-small No.Room = omega arith
 
 module _ (out : List ℕ) (answer : Lookup) where
   pub no-room : length out < 8 → (17 ≡ valueCode out answer) × (out ≡ valueBytes out answer)
@@ -41,3 +28,31 @@ module _ (out : List ℕ) (answer : Lookup) where
       → (code ≡ valueCode out answer) × (now ≡ valueBytes out answer)
   unfolding valueCode valueBytes either
   room h code now e f = (rw (le-leb 8 (length out) h) e, rw (le-leb 8 (length out) h) f)
+
+-- every check's number is small
+pub code-small : (c : Check) → codeOf c ≤ 17
+unfolding codeOf
+code-small Passed = omega arith
+code-small (Refused r) = small r
+
+module _ (file : List ℕ) where
+  -- the sections, word for word
+  pub sections-flat : (ps : List (List ℕ)) → ps ≡ pairs meta file
+      → placeIn ps 0 ∷ sizeIn ps 0 ∷ placeIn ps 1 ∷ sizeIn ps 1 ∷ placeIn ps 2 ∷ sizeIn ps 2 ∷ placeIn ps 3 ∷ sizeIn ps 3
+      ∷ placeIn ps 4 ∷ sizeIn ps 4 ∷ placeIn ps 5 ∷ sizeIn ps 5 ∷ placeIn ps 6 ∷ sizeIn ps 6 ∷ placeIn ps 7 ∷ sizeIn ps 7 ∷ [] ≡ flat ps
+  unfolding pairs pairsFrom pairAt flat
+  sections-flat ps e = rw e
+
+  -- the counts, by the number
+  counts-by : (c : Check) → opening meta file ≡ c → {n : ℕ} → n ≡ codeOf c → (n ≡ 0 → countsWords file ≡ 0 ∷ counts file)
+      × ((n ≡ 0 → ⊥) → (was : List ℕ) → (n ≡ codeIn (countsWords file)) × (was ≡ wordsIn was (countsWords file)))
+  unfolding codeOf openWords counts ifPassed
+  counts-by Passed e f = (λ z. rw e, λ z. absurd (z f))
+  counts-by (Refused r) e f = (λ z. absurd (omega (arith, positive r)), λ z was. refused was r [] (rw e) f)
+
+  pub counts-told : {n : ℕ} → n ≡ codeOf (opening meta file) → n ≡ 0 → countsWords file ≡ 0 ∷ counts file
+  counts-told e = counts-by (opening meta file) refl e .0
+
+  pub counts-refused : {n : ℕ} → n ≡ codeOf (opening meta file) → (n ≡ 0 → ⊥) → (was : List ℕ)
+      → (n ≡ codeIn (countsWords file)) × (was ≡ wordsIn was (countsWords file))
+  counts-refused e = counts-by (opening meta file) refl e .1

@@ -1,18 +1,286 @@
-// The library as C programs call it.
+// The library as C programs call it: every entry point, with the answer's number as the result and its values in lent words. Nothing is
+// written where the number is not 0, but for the number of contexts that a walk listed.
 ghost use mathlib.Core.Path.{_≡_};
 ghost use Prim.Native.Nat.{_≤_};
 ghost use lib.ListN.{length};
-ghost use Rattle.refusal.specs.Number.{numberOf};
-ghost use Rattle.lookup.specs.Lookup.{profileLookup, cctLookup};
+ghost use Rattle.refusal.specs.Check.{codeOf};
+ghost use Rattle.open.specs.Format.{profile, cct, trace};
+ghost use Rattle.text.specs.String.{textWords};
+ghost use Rattle.meta.specs.Names.{titleAt, descriptionAt, kindAt, moduleAt, sourceAt, sourceWords};
+ghost use Rattle.metric.specs.Levels.{metricAt, scopeAt, summaryAt, metricWords, scopeWords, summaryWords};
+ghost use Rattle.function.specs.Function.{functionAt, functionWords};
+ghost use Rattle.traversal.specs.Traversal.{listOf};
+ghost use Rattle.traversal.specs.Walk.{walkWith, walkedOf, walkedWords, listingWith, tableAfter, recordsWith};
+ghost use Rattle.count.specs.Count.{countOf, countWords};
+ghost use Rattle.tuple.specs.Tuple.{tupleAt, identifierAt, tupleWords, identifierWords};
+ghost use Rattle.trace.specs.Trace.{lineAt, sampleAt, lastAt, lineWords, sampleWords, lastWords};
+ghost use Rattle.total.specs.Totals.{totalsWords};
+ghost use Rattle.cct.specs.Totals.{cctTotals};
+ghost use Rattle.block.specs.Block.{profileShape, cctShape};
+ghost use Rattle.lookup.specs.Lookup.{profileBlock, cctBlock, profileLookup, cctLookup};
+ghost use Rattle.batch.specs.Batch.{batchBlock, batchCheck, batchAnswers};
+ghost use Rattle.words.specs.Convention.{codeIn, valuesIn, wordsIn, sectionsWords, countsWords};
 ghost use Rattle.hpcdb.specs.Value.{lookupCode, valueIn, valueCode, valueBytes};
 use block::Lookup;
+use refusal::Check;
 
-// The code of a refusal.
-fn code(r: refusal::Refusal) -> u32
-    ensures { λ n. ⌜ n ≡ numberOf r ⌝ }
+// ---- meta.db
+
+// Place and size of each section, in header order.
+#[no_mangle]
+pub extern "C" fn hpcdb_meta_open(file: &[u8], out: &mut [u64; 16]) -> u32
+    ensures { λ r. ⌜ r ≡ codeIn (sectionsWords (now (file .entry))) ⌝ }
+    ensures { λ _. ⌜ now (out .exit) ≡ wordsIn (now (out .entry)) (sectionsWords (now (file .entry))) ⌝ }
 {
-    refusal::number(r) as u32
+    let s = open::meta_sections(file);
+    let check = open::check_meta(file, s);
+    match check {
+        Check::Passed => {
+            *out = [
+                s[0][0],
+                s[0][1],
+                s[1][0],
+                s[1][1],
+                s[2][0],
+                s[2][1],
+                s[3][0],
+                s[3][1],
+                s[4][0],
+                s[4][1],
+                s[5][0],
+                s[5][1],
+                s[6][0],
+                s[6][1],
+                s[7][0],
+                s[7][1],
+            ];
+            0
+        }
+        Check::Refused(r) => words::code(r),
+    }
 }
+
+// How many identifier kinds, metrics, modules, files and functions there are.
+#[no_mangle]
+pub extern "C" fn hpcdb_meta_counts(file: &[u8], out: &mut [u64; 5]) -> u32
+    ensures { λ r. ⌜ r ≡ codeIn (countsWords (now (file .entry))) ⌝ }
+    ensures { λ _. ⌜ now (out .exit) ≡ wordsIn (now (out .entry)) (countsWords (now (file .entry))) ⌝ }
+{
+    let mut refusal = 0;
+    let counts = meta::counts(file, &mut refusal);
+    if refusal != 0 {
+        return refusal as u32;
+    }
+    *out = counts;
+    0
+}
+
+// Place and length of a string.
+#[no_mangle]
+pub extern "C" fn hpcdb_meta_title(file: &[u8], out: &mut [u64; 2]) -> u32
+    ensures { λ r. ⌜ r ≡ codeIn (textWords (titleAt (now (file .entry)))) ⌝ }
+    ensures { λ _. ⌜ now (out .exit) ≡ wordsIn (now (out .entry)) (textWords (titleAt (now (file .entry)))) ⌝ }
+{
+    words::put_text(meta::title_at(file), out)
+}
+
+#[no_mangle]
+pub extern "C" fn hpcdb_meta_description(file: &[u8], out: &mut [u64; 2]) -> u32
+    ensures { λ r. ⌜ r ≡ codeIn (textWords (descriptionAt (now (file .entry)))) ⌝ }
+    ensures { λ _. ⌜ now (out .exit) ≡ wordsIn (now (out .entry)) (textWords (descriptionAt (now (file .entry)))) ⌝ }
+{
+    words::put_text(meta::description_at(file), out)
+}
+
+#[no_mangle]
+pub extern "C" fn hpcdb_meta_id_name(file: &[u8], kind: u64, out: &mut [u64; 2]) -> u32
+    ensures { λ r. ⌜ r ≡ codeIn (textWords (kindAt (now (file .entry)) kind)) ⌝ }
+    ensures { λ _. ⌜ now (out .exit) ≡ wordsIn (now (out .entry)) (textWords (kindAt (now (file .entry)) kind)) ⌝ }
+{
+    words::put_text(meta::kind_at(file, kind), out)
+}
+
+// Place and length of a metric's name, and the number of its scopes.
+#[no_mangle]
+pub extern "C" fn hpcdb_meta_metric(file: &[u8], i: u64, out: &mut [u64; 3]) -> u32
+    ensures { λ r. ⌜ r ≡ codeIn (metricWords (metricAt (now (file .entry)) i)) ⌝ }
+    ensures { λ _. ⌜ now (out .exit) ≡ wordsIn (now (out .entry)) (metricWords (metricAt (now (file .entry)) i)) ⌝ }
+{
+    words::put_metric(metric::metric_at(file, i), out)
+}
+
+// Place and length of a scope's name, the number of its summaries, and propMetricId.
+#[no_mangle]
+pub extern "C" fn hpcdb_meta_scope(file: &[u8], i: u64, j: u64, out: &mut [u64; 4]) -> u32
+    ensures { λ r. ⌜ r ≡ codeIn (scopeWords (scopeAt (now (file .entry)) i j)) ⌝ }
+    ensures { λ _. ⌜ now (out .exit) ≡ wordsIn (now (out .entry)) (scopeWords (scopeAt (now (file .entry)) i j)) ⌝ }
+{
+    words::put_scope(metric::scope_at(file, i, j), out)
+}
+
+// Place and length of a summary's formula, combine, and statMetricId.
+#[no_mangle]
+pub extern "C" fn hpcdb_meta_summary(file: &[u8], i: u64, j: u64, k: u64, out: &mut [u64; 4]) -> u32
+    ensures { λ r. ⌜ r ≡ codeIn (summaryWords (summaryAt (now (file .entry)) i j k)) ⌝ }
+    ensures { λ _. ⌜ now (out .exit) ≡ wordsIn (now (out .entry)) (summaryWords (summaryAt (now (file .entry)) i j k)) ⌝ }
+{
+    words::put_summary(metric::summary_at(file, i, j, k), out)
+}
+
+#[no_mangle]
+pub extern "C" fn hpcdb_meta_module(file: &[u8], i: u64, out: &mut [u64; 2]) -> u32
+    ensures { λ r. ⌜ r ≡ codeIn (textWords (moduleAt (now (file .entry)) i)) ⌝ }
+    ensures { λ _. ⌜ now (out .exit) ≡ wordsIn (now (out .entry)) (textWords (moduleAt (now (file .entry)) i)) ⌝ }
+{
+    words::put_text(meta::module_at(file, i), out)
+}
+
+// Place and length of a file's path, and 1 if it was copied.
+#[no_mangle]
+pub extern "C" fn hpcdb_meta_file(file: &[u8], i: u64, out: &mut [u64; 3]) -> u32
+    ensures { λ r. ⌜ r ≡ codeIn (sourceWords (sourceAt (now (file .entry)) i)) ⌝ }
+    ensures { λ _. ⌜ now (out .exit) ≡ wordsIn (now (out .entry)) (sourceWords (sourceAt (now (file .entry)) i)) ⌝ }
+{
+    words::put_source(meta::source_file(file, i), out)
+}
+
+// 1 if a function has no name; place and length of the name, module, offset, file and line.
+#[no_mangle]
+pub extern "C" fn hpcdb_meta_function(file: &[u8], i: u64, out: &mut [u64; 7]) -> u32
+    ensures { λ r. ⌜ r ≡ codeIn (functionWords (functionAt (now (file .entry)) i)) ⌝ }
+    ensures { λ _. ⌜ now (out .exit) ≡ wordsIn (now (out .entry)) (functionWords (functionAt (now (file .entry)) i)) ⌝ }
+{
+    words::put_function(function::function_at(file, i), out)
+}
+
+// The walk of the contexts. The number listed is written whatever the end: 0 whole, 101 cut, else the refusal's number.
+#[no_mangle]
+pub extern "C" fn hpcdb_meta_walk(
+    file: &[u8],
+    listing: &mut [u64],
+    table: &mut [u64],
+    out: &mut [u64; 1],
+) -> u32
+    ensures { λ r. ⌜ r ≡ codeIn (walkedWords (walkedOf (walkWith (now (file .entry)) (now (listing .entry)) (now (table .entry))))) ⌝ }
+    ensures { λ _. ⌜ now (out .exit) ≡ valuesIn (walkedWords (walkedOf (walkWith (now (file .entry)) (now (listing .entry)) (now (table .entry))))) ⌝ }
+    ensures { λ _. ⌜ now (listing .exit) ≡ listingWith (listOf (walkWith (now (file .entry)) (now (listing .entry)) (now (table .entry)))) (now (listing .entry)) ⌝ }
+    ensures { λ _. ⌜ now (table .exit) ≡ tableAfter (now (file .entry)) (walkWith (now (file .entry)) (now (listing .entry)) (now (table .entry))) (now (table .entry)) ⌝ }
+{
+    words::put_walked(walk::walk(file, listing, table), out)
+}
+
+// The same walk, with the records of the listed contexts.
+#[no_mangle]
+pub extern "C" fn hpcdb_meta_records(
+    file: &[u8],
+    listing: &mut [u64],
+    table: &mut [u64],
+    records: &mut [u64],
+    out: &mut [u64; 1],
+) -> u32
+    ensures { λ r. ⌜ r ≡ codeIn (walkedWords (walkedOf (walkWith (now (file .entry)) (now (listing .entry)) (now (table .entry))))) ⌝ }
+    ensures { λ _. ⌜ now (out .exit) ≡ valuesIn (walkedWords (walkedOf (walkWith (now (file .entry)) (now (listing .entry)) (now (table .entry))))) ⌝ }
+    ensures { λ _. ⌜ now (listing .exit) ≡ listingWith (listOf (walkWith (now (file .entry)) (now (listing .entry)) (now (table .entry)))) (now (listing .entry)) ⌝ }
+    ensures { λ _. ⌜ now (table .exit) ≡ tableAfter (now (file .entry)) (walkWith (now (file .entry)) (now (listing .entry)) (now (table .entry))) (now (table .entry)) ⌝ }
+    ensures { λ _. ⌜ now (records .exit) ≡ recordsWith (listOf (walkWith (now (file .entry)) (now (listing .entry)) (now (table .entry)))) (now (records .entry)) ⌝ }
+{
+    words::put_walked(walk::records(file, listing, table, records), out)
+}
+
+// ---- profile.db, cct.db and trace.db
+
+// How many profiles there are.
+#[no_mangle]
+pub extern "C" fn hpcdb_profile_open(file: &[u8], out: &mut [u64; 1]) -> u32
+    ensures { λ r. ⌜ r ≡ codeIn (countWords (countOf profile (now (file .entry)))) ⌝ }
+    ensures { λ _. ⌜ now (out .exit) ≡ wordsIn (now (out .entry)) (countWords (countOf profile (now (file .entry)))) ⌝ }
+{
+    words::put_count(count::profiles(file), out)
+}
+
+// How many contexts there are.
+#[no_mangle]
+pub extern "C" fn hpcdb_cct_open(file: &[u8], out: &mut [u64; 1]) -> u32
+    ensures { λ r. ⌜ r ≡ codeIn (countWords (countOf cct (now (file .entry)))) ⌝ }
+    ensures { λ _. ⌜ now (out .exit) ≡ wordsIn (now (out .entry)) (countWords (countOf cct (now (file .entry)))) ⌝ }
+{
+    words::put_count(count::contexts(file), out)
+}
+
+// How many lines there are.
+#[no_mangle]
+pub extern "C" fn hpcdb_trace_open(file: &[u8], out: &mut [u64; 1]) -> u32
+    ensures { λ r. ⌜ r ≡ codeIn (countWords (countOf trace (now (file .entry)))) ⌝ }
+    ensures { λ _. ⌜ now (out .exit) ≡ wordsIn (now (out .entry)) (countWords (countOf trace (now (file .entry)))) ⌝ }
+{
+    words::put_count(count::lines(file), out)
+}
+
+// How many identifications a profile's tuple has.
+#[no_mangle]
+pub extern "C" fn hpcdb_profile_tuple(file: &[u8], profile: u64, out: &mut [u64; 1]) -> u32
+    ensures { λ r. ⌜ r ≡ codeIn (tupleWords (tupleAt (now (file .entry)) profile)) ⌝ }
+    ensures { λ _. ⌜ now (out .exit) ≡ wordsIn (now (out .entry)) (tupleWords (tupleAt (now (file .entry)) profile)) ⌝ }
+{
+    words::put_tuple(tuple::tuple_at(file, profile), out)
+}
+
+// Kind, flags, logicalId and physicalId.
+#[no_mangle]
+pub extern "C" fn hpcdb_profile_identifier(
+    file: &[u8],
+    profile: u64,
+    k: u64,
+    out: &mut [u64; 4],
+) -> u32
+    ensures { λ r. ⌜ r ≡ codeIn (identifierWords (identifierAt (now (file .entry)) profile k)) ⌝ }
+    ensures { λ _. ⌜ now (out .exit) ≡ wordsIn (now (out .entry)) (identifierWords (identifierAt (now (file .entry)) profile k)) ⌝ }
+{
+    words::put_identifier(tuple::identifier_at(file, profile, k), out)
+}
+
+// Count; profile and bits of the smallest value, and of the greatest; bits of the sum.
+#[no_mangle]
+pub extern "C" fn hpcdb_cct_totals(
+    file: &[u8],
+    context: u64,
+    metric: u64,
+    out: &mut [u64; 6],
+) -> u32
+    ensures { λ r. ⌜ r ≡ codeIn (totalsWords (cctTotals (now (file .entry)) context metric)) ⌝ }
+    ensures { λ _. ⌜ now (out .exit) ≡ wordsIn (now (out .entry)) (totalsWords (cctTotals (now (file .entry)) context metric)) ⌝ }
+{
+    words::put_totals(cct::totals(file, context, metric), out)
+}
+
+// The line's profile, and the number of its samples.
+#[no_mangle]
+pub extern "C" fn hpcdb_trace_line(file: &[u8], i: u64, out: &mut [u64; 2]) -> u32
+    ensures { λ r. ⌜ r ≡ codeIn (lineWords (lineAt (now (file .entry)) i)) ⌝ }
+    ensures { λ _. ⌜ now (out .exit) ≡ wordsIn (now (out .entry)) (lineWords (lineAt (now (file .entry)) i)) ⌝ }
+{
+    words::put_line(trace::line_at(file, i), out)
+}
+
+// Timestamp and context.
+#[no_mangle]
+pub extern "C" fn hpcdb_trace_sample(file: &[u8], i: u64, k: u64, out: &mut [u64; 2]) -> u32
+    ensures { λ r. ⌜ r ≡ codeIn (sampleWords (sampleAt (now (file .entry)) i k)) ⌝ }
+    ensures { λ _. ⌜ now (out .exit) ≡ wordsIn (now (out .entry)) (sampleWords (sampleAt (now (file .entry)) i k)) ⌝ }
+{
+    words::put_sample(trace::sample_at(file, i, k), out)
+}
+
+// Position, timestamp and context of the last sample not later.
+#[no_mangle]
+pub extern "C" fn hpcdb_trace_at(file: &[u8], i: u64, time: u64, out: &mut [u64; 3]) -> u32
+    ensures { λ r. ⌜ r ≡ codeIn (lastWords (lastAt (now (file .entry)) i time)) ⌝ }
+    ensures { λ _. ⌜ now (out .exit) ≡ wordsIn (now (out .entry)) (lastWords (lastAt (now (file .entry)) i time)) ⌝ }
+{
+    words::put_last(trace::last_at(file, i, time), out)
+}
+
+// ---- lookups
 
 // The code, and the value in the first eight bytes.
 fn put_value(answer: Lookup, out: &mut [u8]) -> u32
@@ -26,7 +294,7 @@ fn put_value(answer: Lookup, out: &mut [u8]) -> u32
             0
         }
         Lookup::Absent => 100,
-        Lookup::Refused(r) => code(r),
+        Lookup::Refused(r) => words::code(r),
     }
 }
 
@@ -63,4 +331,32 @@ pub extern "C" fn hpcdb_cct_lookup(
         return 17;
     }
     put_value(lookup::cct_lookup(file, profile, context, metric), out)
+}
+
+// Many values of one block, by pairs of contexts and metrics: two words for each, 0 and the bits, or 100 and 0.
+#[no_mangle]
+pub extern "C" fn hpcdb_profile_lookup_many(
+    file: &[u8],
+    profile: u64,
+    pairs: &[u64],
+    answers: &mut [u64],
+) -> u32
+    ensures { λ r. ⌜ r ≡ codeOf (batchCheck (batchBlock (now (pairs .entry)) (now (answers .entry)) (profileBlock (now (file .entry)) profile))) ⌝ }
+    ensures { λ _. ⌜ now (answers .exit) ≡ batchAnswers (now (file .entry)) profileShape (now (pairs .entry)) (now (answers .entry)) (batchBlock (now (pairs .entry)) (now (answers .entry)) (profileBlock (now (file .entry)) profile)) ⌝ }
+{
+    refusal::code(batch::profile_lookups(file, profile, pairs, answers)) as u32
+}
+
+// Many values of one block, by pairs of metrics and profiles: two words for each, 0 and the bits, or 100 and 0.
+#[no_mangle]
+pub extern "C" fn hpcdb_cct_lookup_many(
+    file: &[u8],
+    context: u64,
+    pairs: &[u64],
+    answers: &mut [u64],
+) -> u32
+    ensures { λ r. ⌜ r ≡ codeOf (batchCheck (batchBlock (now (pairs .entry)) (now (answers .entry)) (cctBlock (now (file .entry)) context))) ⌝ }
+    ensures { λ _. ⌜ now (answers .exit) ≡ batchAnswers (now (file .entry)) cctShape (now (pairs .entry)) (now (answers .entry)) (batchBlock (now (pairs .entry)) (now (answers .entry)) (cctBlock (now (file .entry)) context)) ⌝ }
+{
+    refusal::code(batch::cct_lookups(file, context, pairs, answers)) as u32
 }

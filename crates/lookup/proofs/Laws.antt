@@ -2,6 +2,7 @@
 use Prim.Native.Nat.{ℕ, _^_, _<_}
 use mathlib.Core.Bool.{true, false, _&&_, _||_}
 use mathlib.Core.List.{List, [], _∷_}
+use mathlib.Core.Logic.{inl, inr}
 use mathlib.Core.Path.{_≡_, refl, sym, ap, _∙_}
 use native.Mathlib.Omega.{arith}
 use lib.ListN.{length, getD}
@@ -10,7 +11,7 @@ use Rattle.refusal.specs.declared.Check.{Check}
 use Rattle.refusal.specs.declared.Check.the-variants as Check
 use Rattle.refusal.specs.Check.{ifPassed}
 use Rattle.open.specs.Format as Format
-use Rattle.open.specs.Opening.{pairsFrom, pairs, placeIn}
+use Rattle.open.specs.Opening.{opening, pairs, placeIn}
 use Rattle.open.specs.Kept.{Sections}
 use Rattle.array.specs.declared.Element.{Element}
 use Rattle.array.specs.declared.Element.the-variants as Element
@@ -25,7 +26,7 @@ use Rattle.block.specs.Block as B
 use Rattle.block.proofs.Ranges.{valid}
 use Rattle.lookup.specs.declared.Checked.{Checked}
 use Rattle.lookup.specs.declared.Checked.the-variants.{Valid, Refused}
-use Rattle.lookup.specs.Lookup.{checkedBlock, checkedAt, onChecked, lookupAt}
+use Rattle.lookup.specs.Lookup.{checkedBlock, checkedAt, profileBlock, cctBlock}
 
 block-of : Checked → Block → Block
 block-of (Valid b) other = b
@@ -56,7 +57,18 @@ pub one-section : (file : List ℕ) (h : Shape) (p : List ℕ) (i : ℕ) → che
 unfolding checkedAt checkedBlock B.blockCheck B.rangeRule lies apartAll apart
 one-section file h p i = refl
 
-pub one-lookup : (file : List ℕ) (h : Shape) (p : List ℕ) (i outer inner : ℕ)
-    → lookupAt file h (p ∷ (0 ∷ 0 ∷ []) ∷ []) i outer inner ≡ lookupAt file h (p ∷ []) i outer inner
-unfolding lookupAt
-one-lookup file h p i outer inner = rw (one-section file h p i)
+-- the block of an opened file
+module _ (file : List ℕ) (i : ℕ) (b : Block) where
+  opened-valid : (h : Shape) → B.Widths h → (sections : List (List ℕ)) → (c : Check)
+      → ifPassed Refused c (checkedAt file h sections i) ≡ Valid b → B.Valid file h b
+  unfolding ifPassed tag
+  opened-valid h w sections Check.Passed e = checked-valid file h sections w b i e
+  opened-valid h w sections (Check.Refused r) e = absurd (omega (arith, ap tag e))
+
+  pub profile-valid : profileBlock file i ≡ Valid b → B.Valid file B.profileShape b
+  unfolding profileBlock
+  profile-valid = opened-valid B.profileShape (inr refl, inl refl) (pairs Format.profile file) (opening Format.profile file)
+
+  pub cct-valid : cctBlock file i ≡ Valid b → B.Valid file B.cctShape b
+  unfolding cctBlock
+  cct-valid = opened-valid B.cctShape (inl refl, inr refl) (pairs Format.cct file) (opening Format.cct file)

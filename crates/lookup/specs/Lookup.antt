@@ -1,4 +1,4 @@
--- Lookups in profile.db and cct.db. The block of element i is checked, and then asked for an outer and an inner id.
+-- Lookups in profile.db and cct.db. The block of an element is checked, and then asked for an outer and an inner id.
 use Prim.Native.Nat.{ℕ}
 use mathlib.Core.List.{List, [], _∷_}
 use Rattle.refusal.specs.declared.Refusal.{Refusal}
@@ -41,15 +41,17 @@ unfoldable pub checkedWords : Checked → List ℕ
 checkedWords (Valid b) = 0 ∷ b .total ∷ b .values ∷ b .count ∷ b .indices ∷ []
 checkedWords (Refused r) = numberOf r ∷ []
 
-unfoldable pub lookupAt : List ℕ → Shape → (sections : List (List ℕ)) → (i outer inner : ℕ) → Lookup
-lookupAt file h sections i outer inner = onChecked Lookup.Refused (checkedAt file h sections i) (λ b. lookupIn file h b outer inner)
+-- of a profile of profile.db, and of a context of cct.db
+unfoldable pub profileBlock : List ℕ → (profile : ℕ) → Checked
+profileBlock file profile = ifPassed Refused (opening Format.profile file) (checkedAt file profileShape (pairs Format.profile file) profile)
 
--- in profile.db the element is a profile, its outer ids are contexts and its inner ids metrics
+unfoldable pub cctBlock : List ℕ → (context : ℕ) → Checked
+cctBlock file context = ifPassed Refused (opening Format.cct file) (checkedAt file cctShape (pairs Format.cct file) context)
+
+-- in profile.db the outer ids are contexts and the inner ids metrics; in cct.db they are metrics and profiles
 unfoldable pub profileLookup : List ℕ → (profile context metric : ℕ) → Lookup
 profileLookup file profile context metric =
-    ifPassed Lookup.Refused (opening Format.profile file) (lookupAt file profileShape (pairs Format.profile file) profile context metric)
+    onChecked Lookup.Refused (profileBlock file profile) (λ b. lookupIn file profileShape b context metric)
 
--- in cct.db it is a context, with metrics and profiles
 unfoldable pub cctLookup : List ℕ → (profile context metric : ℕ) → Lookup
-cctLookup file profile context metric =
-    ifPassed Lookup.Refused (opening Format.cct file) (lookupAt file cctShape (pairs Format.cct file) context metric profile)
+cctLookup file profile context metric = onChecked Lookup.Refused (cctBlock file context) (λ b. lookupIn file cctShape b metric profile)

@@ -5,7 +5,7 @@ ghost use lib.ListN.{getD};
 ghost use Rattle.array.specs.Element.{Bounded};
 ghost use Rattle.array.specs.Stored.{infosArray};
 ghost use Rattle.block.specs.Block.{blockAt, Widths};
-ghost use Rattle.lookup.specs.Lookup.{checkedBlock, checkedAt, lookupAt, profileLookup, cctLookup, refusedBy};
+ghost use Rattle.lookup.specs.Lookup.{checkedBlock, checkedAt, profileBlock, cctBlock, profileLookup, cctLookup, refusedBy};
 use array::Element;
 use block::Lookup;
 use block::Shape;
@@ -53,23 +53,33 @@ pub fn checked_at(file: &[u8], h: Shape, one: [u64; 2], other: [u64; 2], i: u64)
     checked_block(file, h, one, other, at)
 }
 
-fn lookup_at(
-    file: &[u8],
-    h: Shape,
-    one: [u64; 2],
-    other: [u64; 2],
-    i: u64,
-    outer: u64,
-    inner: u64,
-) -> Lookup
-    requires { ⌜ Widths h ⌝ }
-    requires { ⌜ Bounded (infosArray (now file) (getD one 0 0)) ⌝ }
-    ensures { λ r. ⌜ r ≡ lookupAt (now (file .entry)) h (one ∷ other ∷ []) i outer inner ⌝ }
+// The block of a profile of profile.db.
+pub fn profile_block(file: &[u8], profile: u64) -> Checked
+    ensures { λ r. ⌜ r ≡ profileBlock (now (file .entry)) profile ⌝ }
 {
-    let checked = checked_at(file, h, one, other, i);
-    match checked {
-        Checked::Valid(b) => block::find(file, h, b, outer, inner),
-        Checked::Refused(r) => Lookup::Refused(r),
+    let sections = open::profile_sections(file);
+    let check = open::check_profile(file, sections);
+    match check {
+        Check::Passed => {
+            let h = block::profile_shape();
+            checked_at(file, h, sections[0], sections[1], profile)
+        }
+        Check::Refused(r) => Checked::Refused(r),
+    }
+}
+
+// The block of a context of cct.db.
+pub fn cct_block(file: &[u8], context: u64) -> Checked
+    ensures { λ r. ⌜ r ≡ cctBlock (now (file .entry)) context ⌝ }
+{
+    let sections = open::single_section(file);
+    let check = open::check_cct(file, sections);
+    match check {
+        Check::Passed => {
+            let h = block::cct_shape();
+            checked_at(file, h, sections[0], [0; 2], context)
+        }
+        Check::Refused(r) => Checked::Refused(r),
     }
 }
 
@@ -77,27 +87,25 @@ fn lookup_at(
 pub fn profile_lookup(file: &[u8], profile: u64, context: u64, metric: u64) -> Lookup
     ensures { λ r. ⌜ r ≡ profileLookup (now (file .entry)) profile context metric ⌝ }
 {
-    let sections = open::profile_sections(file);
-    let check = open::check_profile(file, sections);
-    match check {
-        Check::Passed => {
+    let checked = profile_block(file, profile);
+    match checked {
+        Checked::Valid(b) => {
             let h = block::profile_shape();
-            lookup_at(file, h, sections[0], sections[1], profile, context, metric)
+            block::find(file, h, b, context, metric)
         }
-        Check::Refused(r) => Lookup::Refused(r),
+        Checked::Refused(r) => Lookup::Refused(r),
     }
 }
 
 pub fn cct_lookup(file: &[u8], profile: u64, context: u64, metric: u64) -> Lookup
     ensures { λ r. ⌜ r ≡ cctLookup (now (file .entry)) profile context metric ⌝ }
 {
-    let sections = open::single_section(file);
-    let check = open::check_cct(file, sections);
-    match check {
-        Check::Passed => {
+    let checked = cct_block(file, context);
+    match checked {
+        Checked::Valid(b) => {
             let h = block::cct_shape();
-            lookup_at(file, h, sections[0], [0; 2], context, metric, profile)
+            block::find(file, h, b, metric, profile)
         }
-        Check::Refused(r) => Lookup::Refused(r),
+        Checked::Refused(r) => Lookup::Refused(r),
     }
 }

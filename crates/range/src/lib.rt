@@ -4,12 +4,18 @@ ghost use Prim.Native.Nat.{_+_, _*_};
 ghost use lib.Dec.{leb};
 ghost use Rattle.range.specs.Range.{within, multiple};
 
+// The product of two smaller numbers is a u64. (A quotient, which serves for all, takes longer.)
+const HALF: u64 = 0x1_0000_0000;
+
 // Whether count elements, a stride apart from a place on, end at or before another place.
 pub fn ends_by(place: u64, count: u64, stride: u64, to: u64) -> bool
     ensures { λ r. ⌜ r ≡ leb (place + count * stride) to ⌝ }
 {
     if to < place {
         return false;
+    }
+    if (count < HALF) & (stride < HALF) {
+        return count * stride <= to - place;
     }
     if stride == 0 {
         return true;

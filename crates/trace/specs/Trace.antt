@@ -90,16 +90,21 @@ lastIn file place samples time = samplePosition file place (lastUpTo (timeAt fil
 unfoldable pub lastAt : List ℕ → (i time : ℕ) → Sample
 lastAt file i time = onLine Sample.Refused (lineAt file i) (λ place samples. lastIn file place samples time)
 
--- ---- answers in words: the number, then profile and number of samples; or position, timestamp and context
+-- ---- answers in words: the number; then profile and number of samples; timestamp and context; the same with the position before them
 
 unfoldable pub lineWords : Line → List ℕ
 lineWords (Line.Of profile place samples) = 0 ∷ profile ∷ samples ∷ []
 lineWords (Line.Refused r) = numberOf r ∷ 0 ∷ 0 ∷ []
 
 unfoldable pub sampleWords : Sample → List ℕ
-sampleWords (Sample.At position time context) = 0 ∷ position ∷ time ∷ context ∷ []
-sampleWords Sample.Absent = 100 ∷ 0 ∷ 0 ∷ 0 ∷ []
-sampleWords (Sample.Refused r) = numberOf r ∷ 0 ∷ 0 ∷ 0 ∷ []
+sampleWords (Sample.At position time context) = 0 ∷ time ∷ context ∷ []
+sampleWords Sample.Absent = 100 ∷ 0 ∷ 0 ∷ []
+sampleWords (Sample.Refused r) = numberOf r ∷ 0 ∷ 0 ∷ []
+
+unfoldable pub lastWords : Sample → List ℕ
+lastWords (Sample.At position time context) = 0 ∷ position ∷ time ∷ context ∷ []
+lastWords Sample.Absent = 100 ∷ 0 ∷ 0 ∷ 0 ∷ []
+lastWords (Sample.Refused r) = numberOf r ∷ 0 ∷ 0 ∷ 0 ∷ []
 
 -- ---- what the code below these rules relies on
 

@@ -1,124 +1,42 @@
--- What is before `low` is less than the key, what is from `high` on is not.
-use borrow.Author.Needs.{needs}
-use Rattle.seq.proofs.Search.{Bracket, bracket-start, bracket-up, bracket-down, bracket-none, position-none, position-at}
-use Rattle.seq.proofs.Rising.{sorted-nondecreasing}
-use mathlib.Core.Path.{sym, _∙_}
-use Prim.Native.Nat.{_+_, _-_, _/_}
-use Rattle.block.specs.Block.{idAt}
-use native.Mathlib.Omega.{arith}
+-- By the width.
+use Rattle.block.specs.Block.{idAt, Array}
+use Rattle.seq.specs.Sequence.{position, Sorted}
+use mathlib.Core.Path.{sym, ap, subst, _∙_}
+use mathlib.Core.Logic.{⊎-elim}
+use Prim.Native.Nat.{ℕ}
 use denote.Ref.{now}
 use Rattle.block.proofs.position.Statement.{statement}
 use Rattle.block.proofs.position.Tie as tie
 
-abbrev Inv-loop : tie.InvT-loop
-Inv-loop file at w n key low₀ high₀ low high =
-    Bracket (idAt w file at) n key low high
-
-abbrev μ-loop : tie.MeasureT-loop
-μ-loop file at w n key low₀ high₀ low high = high - low
-
-loop-holds : tie.Need-loop-holds Inv-loop μ-loop
-loop-holds c =
-    let args = c .before .args in
-    bracket-start (idAt (args .w) (now (args .file)) (args .at)) (args .n) (args .key)
-
-add-middle : tie.Need-add-middle Inv-loop μ-loop
-add-middle c =
-    let loop = c .before .loop in
-    let good = c .before .before .before .good in
-    omega (arith, loop .inv .hi-le, good)
-
-id-at-requires : tie.Need-id-at-requires Inv-loop μ-loop
-id-at-requires c κs =
-    let pre = c .before .before .before .pre in
-    let loop = c .before .loop in
-    (pre .0, omega (arith, loop .inv .hi-le))
-
-add-low : tie.Need-add-low Inv-loop μ-loop
-add-low c =
-    let loop = c .before .before .before .loop in
-    let good = c .before .before .before .before .before .good in
-    omega (arith, loop .inv .hi-le, good)
-
-loop-less : tie.Need-loop-less Inv-loop μ-loop
-loop-less c =
-    omega arith
-
-loop-again : tie.Need-loop-again Inv-loop μ-loop
-loop-again c =
-    let pre = c .before .before .before .before .before .pre in
-    let loop = c .before .before .before .loop in
-    let id-at = c .before .id-at in
+search-requires : tie.Need-search-requires
+search-requires c κs =
+    let args = c .before .before .args in
     let if1 = c .if1 in
-    bracket-up (sorted-nondecreasing _ _ (pre .1)) (loop .inv) (loop .low + (loop .high - loop .low) / 2) (omega arith) (omega arith)
-    (rw (id-at .ensures .0) at (if1 .taken))
+    let pre = c .before .before .pre in
+    (subst (λ (w : ℕ). Array (now (args .file)) (args .at) w (args .n)) (if1 .taken) (pre .0), subst (λ (w : ℕ). Sorted (idAt w (now (args .file)) (args .at)) (args .n)) (if1 .taken) (pre .1))
 
-loop-less-2 : tie.Need-loop-less-2 Inv-loop μ-loop
-loop-less-2 c =
-    omega arith
-
-loop-again-2 : tie.Need-loop-again-2 Inv-loop μ-loop
-loop-again-2 c =
-    let pre = c .before .before .before .before .before .pre in
-    let loop = c .before .before .before .loop in
-    let id-at = c .before .id-at in
-    let if1 = c .if1 in
-    bracket-down (sorted-nondecreasing _ _ (pre .1)) (loop .inv) (loop .low + (loop .high - loop .low) / 2) (omega arith) (omega arith)
-    (rw (id-at .ensures .0) at (if1 .left))
-
-returns : tie.Need-returns Inv-loop μ-loop
+returns : tie.Need-returns
 returns c =
-    let args = c .before .before .before .before .args in
-    let loop = c .before .before .loop in
-    sym
-    (position-none (idAt (args .w) (now (args .file)) (args .at)) (args .key) (args .n) (λ k l e. omega (arith, loop .inv .below k (omega arith))))
+    let search = c .search in
+    let args = c .before .before .before .args in
+    let if1 = c .before .if1 in
+    search .ensures ∙ ap (λ (w : ℕ). position (idAt w (now (args .file)) (args .at)) (args .key) (args .n)) (sym (if1 .taken))
 
-id-at-requires-2 : tie.Need-id-at-requires-2 Inv-loop μ-loop
-id-at-requires-2 c κs =
-    let pre = c .before .before .before .before .pre in
-    let if2 = c .if2 in
-    (pre .0, if2 .left)
+search-requires-2 : tie.Need-search-requires-2
+search-requires-2 c κs =
+    let if1 = c .if1 in
+    let pre = c .before .before .pre in
+    let args = c .before .before .args in
+    let four = (⊎-elim (λ q. absurd (if1 .left q)) (λ q. q) (pre .0 .width)) in
+    (subst (λ (w : ℕ). Array (now (args .file)) (args .at) w (args .n)) four (pre .0), subst (λ (w : ℕ). Sorted (idAt w (now (args .file)) (args .at)) (args .n)) four (pre .1))
 
-returns-2 : tie.Need-returns-2 Inv-loop μ-loop
+returns-2 : tie.Need-returns-2
 returns-2 c =
-    let args = c .before .before .before .before .before .before .args in
-    let pre = c .before .before .before .before .before .before .pre in
-    let loop = c .before .before .before .before .loop in
-    let if2 = c .before .before .if2 in
-    let id-at2 = c .before .id-at2 in
-    let if3 = c .if3 in
-    sym
-    (position-at (idAt (args .w) (now (args .file)) (args .at)) (args .key) (args .n) (pre .1) (loop .low) (if2 .left) (sym (id-at2 .ensures .0) ∙ if3 .taken))
-
-returns-3 : tie.Need-returns-3 Inv-loop μ-loop
-returns-3 c =
-    let args = c .before .before .before .before .before .before .args in
-    let loop = c .before .before .before .before .loop in
-    let pre = c .before .before .before .before .before .before .pre in
-    let loop-test = c .before .before .before .loop-test in
-    let if2 = c .before .before .if2 in
-    let if3 = c .if3 in
-    let id-at2 = c .before .id-at2 in
-    sym (position-none (idAt (args .w) (now (args .file)) (args .at)) (args .key) (args .n)
-    (bracket-none (idAt (args .w) (now (args .file)) (args .at)) (args .n) (args .key) (loop .low) (loop .high) (pre .1) (loop .inv) (loop-test .left)
-    (if2 .left) (λ e. if3 .left (id-at2 .ensures .0 ∙ e))))
+    let search2 = c .search2 in
+    let args = c .before .before .before .args in
+    let if1 = c .before .if1 in
+    let pre = c .before .before .before .pre in
+    search2 .ensures ∙ ap (λ (w : ℕ). position (idAt w (now (args .file)) (args .at)) (args .key) (args .n)) (sym (⊎-elim (λ q. absurd (if1 .left q)) (λ q. q) (pre .0 .width)))
 
 pub position-spec : {M : Type 1} → statement M
-position-spec =
-    tie.close
-    (tie.spec
-    Inv-loop
-    μ-loop
-    loop-holds
-    (λ c. search needs)
-    add-middle
-    id-at-requires
-    add-low
-    loop-less
-    loop-again
-    loop-less-2
-    loop-again-2
-    returns
-    id-at-requires-2
-    returns-2
-    returns-3)
+position-spec = tie.close (tie.spec search-requires returns search-requires-2 returns-2)

@@ -1,69 +1,45 @@
--- By whether the file opens.
-use Rattle.cct.proofs.Laws.{one-total}
-use Rattle.block.specs.Block.{cctShape}
-use Rattle.total.specs.declared.Totals.the-variants.{Refused}
-use Rattle.total.specs.declared.Totals.{Totals}
-use Rattle.array.proofs.Bounds.{bounded}
-use Rattle.open.proofs.Answer.{answers, refuses, told-passed, single-pairs, single-list}
-use Rattle.open.specs.Format as Format
-use Prim.Native.Nat.{ℕ}
-use mathlib.Core.List.{List}
-use mathlib.Core.Path.{refl, ap, _∙_}
-use mathlib.Core.Logic.{inl, inr}
-use Rattle.cct.specs.Totals.{cctTotals, totalsAt}
-use native.Mathlib.Omega.{arith}
+-- By the block.
+use Rattle.lookup.proofs.Laws.{cct-valid}
+use Rattle.lookup.specs.Lookup.{onChecked}
+use Rattle.cct.specs.Totals.{cctTotals}
+use mathlib.Core.Path.{sym, _∙_}
 use denote.Ref.{now}
 use borrow.Author.Needs.{needs}
 use Rattle.cct.proofs.totals.Statement.{statement}
 use Rattle.cct.proofs.totals.Tie as tie
 
-totals-at-requires : tie.Need-totals-at-requires
-totals-at-requires c κs =
-    let args = c .before .before .before .before .before .before .before .args in
-    let single-section = c .before .before .before .before .before .single-section in
-    let check-cct = c .before .before .before .before .check-cct in
-    let enum-told = c .before .before .enum-told in
-    let cct-shape = c .before .cct-shape in
-    let opened = told-passed Format.cct _ (single-pairs Format.cct (now (args .file)) _ refl (single-section .ensures)) (check-cct .ensures)
-    (enum-told .given .1) in (
-      rw (cct-shape .ensures) (inl refl, inr refl),
-      bounded Format.cct (now (args .file)) (omega arith) opened 0 (omega arith) (Format.u32 8) (Format.held (Format.u8 12)) refl (omega arith) refl,
-    )
+totals-in-requires : tie.Need-totals-in-requires
+totals-in-requires c κs =
+    let cct-shape = c .cct-shape in
+    let args = c .before .before .before .before .before .before .args in
+    let cct-block = c .before .before .before .before .cct-block in
+    let checked = c .before .before .checked in
+    rw (cct-shape .ensures) (cct-valid (now (args .file)) (args .context) _ (sym (cct-block .ensures) ∙ checked .given .1))
 
 returns : tie.Need-returns
-unfolding cctTotals
+unfolding cctTotals onChecked
 returns c =
-    let args = c .before .before .before .before .before .before .before .before .args in
-    let totals-at = c .totals-at in
-    let cct-shape = c .before .before .cct-shape in
-    let single-section = c .before .before .before .before .before .before .single-section in
-    let check-cct = c .before .before .before .before .before .check-cct in
-    let enum-told = c .before .before .before .enum-told in
-    let all : List (List ℕ) → Totals = λ ps. totalsAt (now (args .file)) cctShape ps (args .context) (args .metric) in
-    rw (totals-at .ensures, cct-shape .ensures)
-    (one-total (now (args .file)) cctShape _ (args .context) (args .metric) ∙ ap all (single-list (now (args .file)) (single-section .ensures))
-    ∙ answers Format.cct (now (args .file)) (single-pairs Format.cct (now (args .file)) _ refl (single-section .ensures)) (check-cct .ensures) Refused all
-    (enum-told .given .1))
+    let totals-in = c .totals-in in
+    let cct-shape = c .before .cct-shape in
+    let cct-block = c .before .before .before .before .before .cct-block in
+    let checked = c .before .before .before .checked in
+    rw (totals-in .ensures, cct-shape .ensures, ← cct-block .ensures, checked .given .1)
 
 returns-2 : tie.Need-returns-2
-unfolding cctTotals
+unfolding cctTotals onChecked
 returns-2 c =
-    let args = c .before .before .before .before .before .before .args in
-    let single-section = c .before .before .before .before .single-section in
-    let check-cct = c .before .before .before .check-cct in
-    let check = c .before .check in
-    refuses Format.cct _ (single-pairs Format.cct (now (args .file)) _ refl (single-section .ensures)) (check-cct .ensures) Refused _ _ (check .given .1)
+    let cct-block = c .before .before .before .cct-block in
+    let checked2 = c .before .checked2 in
+    rw (← cct-block .ensures, checked2 .given .1)
 
 pub totals-spec : {M : Type 1} → statement M
 totals-spec =
     tie.close
     (tie.spec
     (λ c κs. search needs)
-    (λ c κs. search needs)
     (λ c. search needs)
     (λ c κs. search needs)
-    (λ c. search needs)
-    totals-at-requires
+    totals-in-requires
     (λ c. search needs)
     returns
     returns-2)

@@ -1,66 +1,44 @@
--- By whether the file opens.
-use Rattle.block.specs.Block.{profileShape}
-use Rattle.lookup.specs.Lookup.{profileLookup, lookupAt}
-use Rattle.block.specs.declared.Lookup.the-variants.{Refused}
-use Rattle.block.specs.declared.Lookup.{Lookup}
-use Rattle.array.proofs.Bounds.{bounded}
-use Rattle.open.proofs.Answer.{answers, refuses, told-passed, two-pairs}
-use Rattle.open.specs.Format as Format
-use Prim.Native.Nat.{ℕ}
-use mathlib.Core.List.{List}
-use mathlib.Core.Path.{refl, ap, _∙_}
-use mathlib.Core.Logic.{inl, inr}
-use native.Mathlib.Omega.{arith}
+-- By the block.
+use Rattle.lookup.proofs.Laws.{profile-valid}
+use Rattle.lookup.specs.Lookup.{profileLookup, onChecked}
+use mathlib.Core.Path.{sym, _∙_}
 use denote.Ref.{now}
 use borrow.Author.Needs.{needs}
 use Rattle.lookup.proofs.profile_lookup.Statement.{statement}
 use Rattle.lookup.proofs.profile_lookup.Tie as tie
 
-lookup-at-requires : tie.Need-lookup-at-requires
-lookup-at-requires c κs =
-    let profile-sections = c .before .before .before .before .before .before .profile-sections in
-    let check-profile = c .before .before .before .before .before .check-profile in
-    let enum-told = c .before .before .before .enum-told in
-    let profile-shape = c .before .before .profile-shape in
-    let args = c .before .before .before .before .before .before .before .before .args in
-    let opened = told-passed Format.profile _ (profile-sections .ensures) (check-profile .ensures) (enum-told .given .1) in (
-      rw (profile-shape .ensures) (inr refl, inl refl),
-      bounded Format.profile (now (args .file)) (omega arith) opened 0 (omega arith) (Format.u32 8) (Format.held (Format.u8 12)) refl (omega arith) refl,
-    )
+find-requires : tie.Need-find-requires
+find-requires c κs =
+    let profile-shape = c .profile-shape in
+    let args = c .before .before .before .before .before .before .args in
+    let profile-block = c .before .before .before .before .profile-block in
+    let checked = c .before .before .checked in
+    rw (profile-shape .ensures) (profile-valid (now (args .file)) (args .profile) _ (sym (profile-block .ensures) ∙ checked .given .1))
 
 returns : tie.Need-returns
-unfolding profileLookup
+unfolding profileLookup onChecked
 returns c =
-    let args = c .before .before .before .before .before .before .before .before .before .args in
-    let lookup-at = c .lookup-at in
-    let profile-shape = c .before .before .before .profile-shape in
-    let profile-sections = c .before .before .before .before .before .before .before .profile-sections in
-    let check-profile = c .before .before .before .before .before .before .check-profile in
-    let enum-told = c .before .before .before .before .enum-told in
-    let look : List (List ℕ) → Lookup = λ ps. lookupAt (now (args .file)) profileShape ps (args .profile) (args .context) (args .metric) in
-    rw (lookup-at .ensures, profile-shape .ensures)
-    (ap look (two-pairs (now (args .file)) (profile-sections .ensures))
-    ∙ answers Format.profile (now (args .file)) (profile-sections .ensures) (check-profile .ensures) Refused look (enum-told .given .1))
+    let find = c .find in
+    let profile-shape = c .before .profile-shape in
+    let profile-block = c .before .before .before .before .before .profile-block in
+    let checked = c .before .before .before .checked in
+    rw (find .ensures, profile-shape .ensures, ← profile-block .ensures, checked .given .1)
 
 returns-2 : tie.Need-returns-2
-unfolding profileLookup
+unfolding profileLookup onChecked
 returns-2 c =
-    let profile-sections = c .before .before .before .before .profile-sections in
-    let check-profile = c .before .before .before .check-profile in
-    let check = c .before .check in
-    refuses Format.profile _ (profile-sections .ensures) (check-profile .ensures) Refused _ _ (check .given .1)
+    let profile-block = c .before .before .before .profile-block in
+    let checked2 = c .before .checked2 in
+    rw (← profile-block .ensures, checked2 .given .1)
 
 pub profile-lookup-spec : {M : Type 1} → statement M
 profile-lookup-spec =
     tie.close
     (tie.spec
     (λ c κs. search needs)
-    (λ c κs. search needs)
     (λ c. search needs)
     (λ c κs. search needs)
-    (λ c. search needs)
-    (λ c. search needs)
-    lookup-at-requires
+    find-requires
     (λ c. search needs)
     returns
     returns-2)

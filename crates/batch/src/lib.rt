@@ -1,0 +1,77 @@
+// Many lookups in one block: one check of it, and then two searches for each pair of ids.
+ghost use mathlib.Core.Path.{_≡_};
+ghost use Prim.Native.Nat.{_+_, _*_, _/_, _≤_};
+ghost use lib.ListN.{length};
+ghost use Rattle.buffer.specs.Over.{over};
+ghost use Rattle.block.specs.Block.{profileShape, cctShape, lookupWords, Valid};
+ghost use Rattle.lookup.specs.Lookup.{profileBlock, cctBlock};
+ghost use Rattle.batch.specs.Batch.{pairsIn, answersIn, batchBlock, batchCheck, batchAnswers};
+use block::Block;
+use block::Lookup;
+use block::Shape;
+use lookup::Checked;
+use refusal::Check;
+use refusal::Refusal;
+
+// An answer in two words from a place on.
+fn put_answer(answer: Lookup, out: &mut [u64], at: usize)
+    requires { ⌜ at + 2 ≤ length (now out) ⌝ }
+    ensures { λ _. ⌜ now (out .exit) ≡ over (now (out .entry)) at (lookupWords answer) ⌝ }
+{
+    match answer {
+        Lookup::Found(bits) => buffer::store(out, at, &[0, bits]),
+        Lookup::Absent => buffer::store(out, at, &[100, 0]),
+        Lookup::Refused(r) => buffer::store(out, at, &[refusal::number(r), 0]),
+    }
+}
+
+// The answers to all pairs, in a checked block.
+fn find_all(file: &[u8], h: Shape, b: Block, pairs: &[u64], answers: &mut [u64])
+    requires { ⌜ Valid (now file) h b ⌝ }
+    requires { ⌜ 2 * pairsIn (now pairs) ≤ length (now answers) ⌝ }
+    ensures { λ _. ⌜ now (answers .exit) ≡ answersIn (now (file .entry)) h b (now (pairs .entry)) (now (answers .entry)) ⌝ }
+{
+    let n = pairs.len() / 2;
+    let mut k: usize = 0;
+    while k < n {
+        let answer = block::find(file, h, b, pairs[2 * k], pairs[2 * k + 1]);
+        put_answer(answer, answers, 2 * k);
+        k += 1;
+    }
+}
+
+// The values of contexts and metrics in a profile: 17, then as a lookup is refused.
+pub fn profile_lookups(file: &[u8], profile: u64, pairs: &[u64], answers: &mut [u64]) -> Check
+    ensures { λ r. ⌜ r ≡ batchCheck (batchBlock (now (pairs .entry)) (now (answers .entry)) (profileBlock (now (file .entry)) profile)) ⌝ }
+    ensures { λ _. ⌜ now (answers .exit) ≡ batchAnswers (now (file .entry)) profileShape (now (pairs .entry)) (now (answers .entry)) (batchBlock (now (pairs .entry)) (now (answers .entry)) (profileBlock (now (file .entry)) profile)) ⌝ }
+{
+    if answers.len() / 2 < pairs.len() / 2 {
+        return Check::Refused(Refusal::Room);
+    }
+    let checked = lookup::profile_block(file, profile);
+    match checked {
+        Checked::Valid(b) => {
+            find_all(file, block::profile_shape(), b, pairs, answers);
+            Check::Passed
+        }
+        Checked::Refused(r) => Check::Refused(r),
+    }
+}
+
+// The values of metrics and profiles in a context.
+pub fn cct_lookups(file: &[u8], context: u64, pairs: &[u64], answers: &mut [u64]) -> Check
+    ensures { λ r. ⌜ r ≡ batchCheck (batchBlock (now (pairs .entry)) (now (answers .entry)) (cctBlock (now (file .entry)) context)) ⌝ }
+    ensures { λ _. ⌜ now (answers .exit) ≡ batchAnswers (now (file .entry)) cctShape (now (pairs .entry)) (now (answers .entry)) (batchBlock (now (pairs .entry)) (now (answers .entry)) (cctBlock (now (file .entry)) context)) ⌝ }
+{
+    if answers.len() / 2 < pairs.len() / 2 {
+        return Check::Refused(Refusal::Room);
+    }
+    let checked = lookup::cct_block(file, context);
+    match checked {
+        Checked::Valid(b) => {
+            find_all(file, block::cct_shape(), b, pairs, answers);
+            Check::Passed
+        }
+        Checked::Refused(r) => Check::Refused(r),
+    }
+}

@@ -1,0 +1,15 @@
+-- The walk says all of it.
+use borrow.Author.Needs.{needs}
+use Rattle.hpcdb.proofs.hpcdb_meta_records.Statement.{statement}
+use Rattle.hpcdb.proofs.hpcdb_meta_records.Tie as tie
+
+returns : tie.Need-returns
+returns c =
+    let records = c .before .before .before .before .before .before .before .before .records in
+    let put-walked = c .put-walked in
+    rw (← records .ensures .0) (put-walked .ensures .0, (put-walked .ensures .1, records .ensures .1))
+
+pub hpcdb-meta-records-spec : {M : Type 1} → statement M
+hpcdb-meta-records-spec =
+    tie.close
+    (tie.spec (λ c κs. search needs) (λ c κs. search needs) (λ c. search needs) (λ c. search needs) (λ c. search needs) returns)

@@ -1,0 +1,210 @@
+/* Calls every function of libhpcdb.a on the sample files, with answers written by hand, and with null pointers for nothing. */
+#include "../include/hpcdb.h"
+#include <stdio.h>
+#include <stdlib.h>
+#include <string.h>
+
+static int checks, failures;
+
+static void expect(const char *what, uint64_t got, uint64_t want)
+{
+    checks++;
+    if (got != want) {
+        printf("%s: got %llu, want %llu\n", what, (unsigned long long)got, (unsigned long long)want);
+        failures++;
+    }
+}
+
+static void expect_words(const char *what, uint32_t code, const uint64_t *out, size_t n, const uint64_t *want)
+{
+    expect(what, code, HPCDB_OK);
+    for (size_t i = 0; i < n; i++)
+        expect(what, out[i], want[i]);
+}
+#define WORDS(what, call, n, ...) \
+    do { \
+        uint64_t out[n], want[n] = {__VA_ARGS__}; \
+        memset(out, 0xa5, sizeof out); \
+        uint32_t code = call; \
+        expect_words(what, code, out, n, want); \
+    } while (0)
+/* A refusal or absence leaves `out` as it was. */
+#define CODE(what, call, n, want) \
+    do { \
+        uint64_t out[n]; \
+        memset(out, 0xa5, sizeof out); \
+        expect(what, call, want); \
+        for (size_t i = 0; i < (n); i++) \
+            expect(what, out[i], 0xa5a5a5a5a5a5a5a5); \
+    } while (0)
+
+static uint8_t file[65536];
+static size_t length;
+
+static void load(const char *path)
+{
+    FILE *f = fopen(path, "rb");
+    if (!f) {
+        printf("cannot open %s\n", path);
+        exit(1);
+    }
+    length = fread(file, 1, sizeof file, f);
+    fclose(f);
+}
+
+static void sections_of_w(void)
+{
+    load("crates/listing/stdin");
+    WORDS("sections", hpcdb_meta_open(file, length, out), 16, 144, 18, 168, 9, 184, 15, 200, 112, 0, 0, 312, 14, 328, 14, 344, 14);
+    WORDS("counts of W", hpcdb_meta_counts(file, length, out), 5, 0);
+    WORDS("title", hpcdb_meta_title(file, length, out), 2, 160, 1);
+    WORDS("description", hpcdb_meta_description(file, length, out), 2, 161, 0);
+    CODE("a kind of none", hpcdb_meta_id_name(file, length, 0, out), 2, HPCDB_INDEX);
+    CODE("a cut file", hpcdb_meta_open(file, length - 1, out), 16, HPCDB_FOOTER);
+}
+
+static void walks_of_w(void)
+{
+    uint64_t listing[5], table[5], records[4 * HPCDB_RECORD_WORDS + 1], out[1];
+    memset(listing, 0xa5, sizeof listing);
+    memset(records, 0xa5, sizeof records);
+    expect("whole", hpcdb_meta_records(file, length, listing, 5, table, 5, records, 4 * HPCDB_RECORD_WORDS + 1, out), HPCDB_OK);
+    expect("listed", out[0], 4);
+    static const uint64_t places[] = {216, 264, 288, 240, 0xa5a5a5a5a5a5a5a5}, slots[] = {0, 216, 264, 288, 240};
+    static const uint64_t d[HPCDB_RECORD_WORDS] = {288, 2, 3, 0, 2, 0, 0, 0, 0, 0, 0};
+    for (int i = 0; i < 5; i++) {
+        expect("a word of the listing", listing[i], places[i]);
+        expect("a slot of the table", table[i], slots[i]);
+    }
+    for (int i = 0; i < HPCDB_RECORD_WORDS; i++)
+        expect("a word of a record", records[2 * HPCDB_RECORD_WORDS + i], d[i]);
+    expect("the word behind the records", records[4 * HPCDB_RECORD_WORDS], 0xa5a5a5a5a5a5a5a5);
+    expect("cut", hpcdb_meta_walk(file, length, listing, 3, table, 5, out), HPCDB_CUT);
+    expect("listed before the cut", out[0], 3);
+    expect("no slot", hpcdb_meta_walk(file, length, listing, 5, table, 4, out), HPCDB_SLOT);
+    expect("listed before the slot", out[0], 3);
+    expect("not opened", hpcdb_meta_walk(file, 100, listing, 5, table, 5, out), HPCDB_SHORT);
+    expect("listed of none", out[0], 0);
+}
+
+static void names(void)
+{
+    load("crates/meta_cases/data/sound.db");
+    uint64_t out[7];
+    WORDS("counts", hpcdb_meta_counts(file, length, out), 5, 2, 2, 2, 2, 2);
+    expect("a kind's name", hpcdb_meta_id_name(file, length, 1, out), HPCDB_OK);
+    expect("its bytes", memcmp(file + out[0], "RANK", out[1]), 0);
+    expect("a metric", hpcdb_meta_metric(file, length, 0, out), HPCDB_OK);
+    expect("its name", memcmp(file + out[0], "cycles", out[1]), 0);
+    expect("its scopes", out[2], 2);
+    expect("a scope", hpcdb_meta_scope(file, length, 0, 1, out), HPCDB_OK);
+    expect("its name", memcmp(file + out[0], "execution", out[1]), 0);
+    expect("propMetricId", out[3], 65535);
+    expect("a summary", hpcdb_meta_summary(file, length, 0, 0, 1, out), HPCDB_OK);
+    expect("its formula", memcmp(file + out[0], "($$^2)", out[1]), 0);
+    expect("combine", out[2], 2);
+    expect("statMetricId", out[3], 21);
+    expect("a module", hpcdb_meta_module(file, length, 1, out), HPCDB_OK);
+    expect("its path", memcmp(file + out[0], "/bin/app", out[1]), 0);
+    expect("a file", hpcdb_meta_file(file, length, 0, out), HPCDB_OK);
+    expect("its path", memcmp(file + out[0], "src/solve.c", out[1]), 0);
+    expect("copied", out[2], 1);
+    expect("a function", hpcdb_meta_function(file, length, 0, out), HPCDB_OK);
+    expect("has a name", out[0], 0);
+    expect("its name", memcmp(file + out[1], "solve", out[2]), 0);
+    WORDS("without a name", hpcdb_meta_function(file, length, 1, out), 7, 1, 0, 0, 664, 4096, 0, 0);
+    CODE("no third", hpcdb_meta_function(file, length, 2, out), 7, HPCDB_INDEX);
+    CODE("no such scope", hpcdb_meta_summary(file, length, 0, UINT64_MAX, 0, out), 4, HPCDB_INDEX);
+}
+
+static void values(void)
+{
+    static const uint64_t pairs[7] = {5, 4, 9, 1, 7, 1, 5};
+    static const uint64_t want[7] = {0, 0x4008000000000000, 0, 0x4014000000000000, 100, 0, 9};
+    uint64_t answers[7] = {9, 9, 9, 9, 9, 9, 9};
+    load("crates/block_cases/data/p-b.db");
+    expect("too few answers", hpcdb_profile_lookup_many(file, 0, 1, pairs, 7, answers, 5), HPCDB_ROOM);
+    expect("no such profile", hpcdb_profile_lookup_many(file, length, 9, pairs, 7, answers, 7), HPCDB_INDEX);
+    for (int i = 0; i < 7; i++)
+        expect("an answer untouched", answers[i], 9);
+    expect("many", hpcdb_profile_lookup_many(file, length, 1, pairs, 7, answers, 7), HPCDB_OK);
+    for (int i = 0; i < 7; i++)
+        expect("an answer", answers[i], want[i]);
+    load("crates/block_cases/data/c-b.db");
+    static const uint64_t of_context[6] = {5, 4, 9, 1, 7, 1};
+    static const uint64_t want_of_context[6] = {0, 0x4008000000000000, 0, 0x4014000000000000, 100, 0};
+    expect("many of a context", hpcdb_cct_lookup_many(file, length, 1, of_context, 6, answers, 6), HPCDB_OK);
+    for (int i = 0; i < 6; i++)
+        expect("an answer of it", answers[i], want_of_context[i]);
+    WORDS("contexts", hpcdb_cct_open(file, length, out), 1, 4);
+    WORDS("totals", hpcdb_cct_totals(file, length, 1, 5, out), 6, 2, 1, 0x4000000000000000, 4, 0x4008000000000000, 0x4014000000000000);
+    CODE("no totals", hpcdb_cct_totals(file, length, 1, 7, out), 6, HPCDB_ABSENT);
+}
+
+static void tuples_and_lines(void)
+{
+    load("crates/record_cases/data/p-tuples.db");
+    WORDS("profiles", hpcdb_profile_open(file, length, out), 1, 6);
+    WORDS("a tuple", hpcdb_profile_tuple(file, length, 3, out), 1, 300);
+    WORDS("an identification", hpcdb_profile_identifier(file, length, 0, 1, out), 4, 255, 65535, 4294967295, UINT64_MAX);
+    CODE("no such identification", hpcdb_profile_identifier(file, length, 1, 0, out), 4, HPCDB_INDEX);
+    load("crates/record_cases/data/t-times.db");
+    WORDS("lines", hpcdb_trace_open(file, length, out), 1, 4);
+    WORDS("a line", hpcdb_trace_line(file, length, 0, out), 2, 100, 2);
+    WORDS("a sample", hpcdb_trace_sample(file, length, 0, 1, out), 2, 20, 6);
+    CODE("too early", hpcdb_trace_at(file, length, 0, 9, out), 3, HPCDB_ABSENT);
+    WORDS("the first", hpcdb_trace_at(file, length, 0, 19, out), 3, 0, 10, 5);
+    WORDS("the second", hpcdb_trace_at(file, length, 0, 20, out), 3, 1, 20, 6);
+    CODE("an empty line", hpcdb_trace_at(file, length, 1, UINT64_MAX, out), 3, HPCDB_ABSENT);
+}
+
+/* A pointer for length 0 may be null. */
+static void nothing(void)
+{
+    CODE("sections", hpcdb_meta_open(NULL, 0, out), 16, HPCDB_SHORT);
+    CODE("counts", hpcdb_meta_counts(NULL, 0, out), 5, HPCDB_SHORT);
+    CODE("title", hpcdb_meta_title(NULL, 0, out), 2, HPCDB_SHORT);
+    CODE("description", hpcdb_meta_description(NULL, 0, out), 2, HPCDB_SHORT);
+    CODE("kind", hpcdb_meta_id_name(NULL, 0, 0, out), 2, HPCDB_SHORT);
+    CODE("metric", hpcdb_meta_metric(NULL, 0, 0, out), 3, HPCDB_SHORT);
+    CODE("scope", hpcdb_meta_scope(NULL, 0, 0, 0, out), 4, HPCDB_SHORT);
+    CODE("summary", hpcdb_meta_summary(NULL, 0, 0, 0, 0, out), 4, HPCDB_SHORT);
+    CODE("module", hpcdb_meta_module(NULL, 0, 0, out), 2, HPCDB_SHORT);
+    CODE("file", hpcdb_meta_file(NULL, 0, 0, out), 3, HPCDB_SHORT);
+    CODE("function", hpcdb_meta_function(NULL, 0, 0, out), 7, HPCDB_SHORT);
+    CODE("profiles", hpcdb_profile_open(NULL, 0, out), 1, HPCDB_SHORT);
+    CODE("contexts", hpcdb_cct_open(NULL, 0, out), 1, HPCDB_SHORT);
+    CODE("lines", hpcdb_trace_open(NULL, 0, out), 1, HPCDB_SHORT);
+    CODE("tuple", hpcdb_profile_tuple(NULL, 0, 0, out), 1, HPCDB_SHORT);
+    CODE("identification", hpcdb_profile_identifier(NULL, 0, 0, 0, out), 4, HPCDB_SHORT);
+    CODE("totals", hpcdb_cct_totals(NULL, 0, 0, 0, out), 6, HPCDB_SHORT);
+    CODE("line", hpcdb_trace_line(NULL, 0, 0, out), 2, HPCDB_SHORT);
+    CODE("sample", hpcdb_trace_sample(NULL, 0, 0, 0, out), 2, HPCDB_SHORT);
+    CODE("time", hpcdb_trace_at(NULL, 0, 0, 0, out), 3, HPCDB_SHORT);
+    uint64_t out[1];
+    expect("lookup", hpcdb_profile_lookup(NULL, 0, 0, 0, 0, NULL, 0), HPCDB_ROOM);
+    expect("lookup", hpcdb_cct_lookup(NULL, 0, 0, 0, 0, NULL, 0), HPCDB_ROOM);
+    expect("lookups", hpcdb_profile_lookup_many(NULL, 0, 0, NULL, 0, NULL, 0), HPCDB_SHORT);
+    expect("lookups", hpcdb_cct_lookup_many(NULL, 0, 0, NULL, 0, NULL, 0), HPCDB_SHORT);
+    expect("walk", hpcdb_meta_records(NULL, 0, NULL, 0, NULL, 0, NULL, 0, out), HPCDB_SHORT);
+    load("crates/listing/stdin");
+    expect("walk of W", hpcdb_meta_records(file, length, NULL, 0, NULL, 0, NULL, 0, out), HPCDB_SLOT);
+    expect("listed", out[0], 0);
+    load("crates/block_cases/data/p-b.db");
+    expect("no pairs", hpcdb_profile_lookup_many(file, length, 1, NULL, 0, NULL, 0), HPCDB_OK);
+}
+
+int main(void)
+{
+    sections_of_w();
+    walks_of_w();
+    names();
+    values();
+    tuples_and_lines();
+    nothing();
+    if (failures)
+        printf("%d of %d checks failed\n", failures, checks);
+    else
+        printf("every function answers as it must: %d checks\n", checks);
+    return failures != 0;
+}

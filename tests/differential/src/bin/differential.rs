@@ -1,0 +1,162 @@
+//! Compares libhpcdb.a with the reader over generated files. Ends with 1 at the first difference, or if the run met too
+//! little.
+
+use std::env;
+use std::fs::{self, File};
+use std::io;
+use std::os::unix::fs::FileExt;
+use std::path::{Path, PathBuf};
+use std::process::ExitCode;
+
+use differential::compare::{compare, Reply};
+use differential::gen::{follow_ups, questions, specimen, Rng, Specimen};
+use differential::lent::LentFile;
+use differential::question::Question;
+use differential::tally::Tally;
+
+const SEED: u64 = 20_260_401;
+const CASES: u64 = 2_000_000;
+
+const USAGE: &str = "\
+differential [--seed S] [--cases N] [--counts]   compare over generated files; --counts shows what the run met
+differential [--seed S] --file F                 make file F of the run again and show each question before it is asked
+
+A file with a difference is kept as failing.db in the directory that cargo builds in. If the library ends the process,
+current-file in that directory has the number F.";
+
+struct Options {
+    seed: u64,
+    cases: u64,
+    counts: bool,
+    only_file: Option<u64>,
+}
+
+fn options(mut arguments: impl Iterator<Item = String>) -> Option<Options> {
+    let mut options = Options { seed: SEED, cases: CASES, counts: false, only_file: None };
+    while let Some(argument) = arguments.next() {
+        let mut number = || arguments.next().and_then(|text| text.parse().ok());
+        match argument.as_str() {
+            "--seed" => options.seed = number()?,
+            "--cases" => options.cases = number()?,
+            "--file" => options.only_file = Some(number()?),
+            "--counts" => options.counts = true,
+            _ => return None,
+        }
+    }
+    Some(options)
+}
+
+fn main() -> ExitCode {
+    let Some(options) = options(env::args().skip(1)) else {
+        eprintln!("{USAGE}");
+        return ExitCode::from(2);
+    };
+    let mut tally = Tally::new();
+    let result = match options.only_file {
+        Some(number) => run_file(options.seed, number, &mut tally, true),
+        None => run(&options, &mut tally),
+    };
+    if let Err(failure) = result {
+        println!("{failure}");
+        return ExitCode::FAILURE;
+    }
+    if options.counts {
+        print!("{}", tally.table());
+    }
+    println!("seed {}: {}", options.seed, tally.line());
+    // a run that is shorter says nothing of the generator
+    let full = options.only_file.is_none() && options.cases >= CASES;
+    let shortfalls = if full { tally.shortfalls() } else { Vec::new() };
+    for shortfall in &shortfalls {
+        println!("not what a run has to meet: {shortfall}");
+    }
+    if shortfalls.is_empty() {
+        ExitCode::SUCCESS
+    } else {
+        ExitCode::FAILURE
+    }
+}
+
+fn run(options: &Options, tally: &mut Tally) -> Result<(), String> {
+    // without it the run is the same; it only helps if the library ends the process
+    let current = build_directory().and_then(|directory| File::create(directory.join("current-file"))).ok();
+    let mut number = 0;
+    while tally.cases < options.cases {
+        if let Some(current) = &current {
+            current.write_all_at(format!("{number:020}\n").as_bytes(), 0).map_err(|error| error.to_string())?;
+        }
+        run_file(options.seed, number, tally, false)?;
+        number += 1;
+    }
+    Ok(())
+}
+
+/// Asks all questions of one file; `aloud` shows them.
+fn run_file(seed: u64, number: u64, tally: &mut Tally, aloud: bool) -> Result<(), String> {
+    let mut rng = Rng::of_file(seed, number);
+    let specimen = specimen(&mut rng);
+    if specimen.damage.is_empty() && !specimen.opens() {
+        return Err(format!("file {number} of seed {seed} has no damage and does not open: the generator is at fault"));
+    }
+    tally.add_file(&specimen);
+    let first = questions(&mut rng, &specimen);
+    let file = LentFile::new(specimen.bytes.clone(), rng.below(8), rng.pick(&[0, b'b', 0xa5, 0xff]));
+    if aloud {
+        println!("file {number}: {}", described(&specimen));
+    }
+    let mut ask = |question: &Question| {
+        if aloud {
+            println!("{}", shown(question));
+        }
+        let reply = compare(question, &file).map_err(|difference| {
+            let what = format!("case {} of seed {seed}, file {number}: {}", tally.cases, described(&specimen));
+            format!(
+                "difference in {what}\n{}\n{difference}again: differential --seed {seed} --file {number}",
+                shown(question)
+            )
+        })?;
+        tally.add_case(question, specimen.bytes.len(), &reply);
+        Ok::<Reply, String>(reply)
+    };
+    for question in &first {
+        let reply = ask(question)?;
+        if rng.one_in(2) {
+            let then = follow_ups(question, reply.code, reply.memory.out.body());
+            then.iter().try_for_each(|question| ask(question).map(drop))?;
+        }
+    }
+    Ok(())
+}
+
+/// Keeps the file for a closer look.
+fn described(specimen: &Specimen) -> String {
+    let kept = match keep(&specimen.bytes) {
+        Ok(path) => path.display().to_string(),
+        Err(error) => format!("nowhere ({error})"),
+    };
+    format!("{:?} of {} bytes, damage {:?}, kept in {kept}", specimen.database, specimen.bytes.len(), specimen.damage)
+}
+
+fn shown(question: &Question) -> String {
+    let row = question.function.row();
+    format!(
+        "{} {:?}, words lent {:?}, bytes lent {}, pairs {:?}",
+        row.name,
+        &question.numbers[..row.numbers],
+        question.rooms,
+        question.value_room,
+        question.pairs
+    )
+}
+
+fn keep(bytes: &[u8]) -> io::Result<PathBuf> {
+    let path = build_directory()?.join("failing.db");
+    fs::write(&path, bytes)?;
+    Ok(path)
+}
+
+/// The directory cargo builds in: this program lies in a directory of it that has the profile's name.
+fn build_directory() -> io::Result<PathBuf> {
+    let program = env::current_exe()?;
+    program.ancestors().nth(2).map(Path::to_owned).ok_or_else(|| io::Error::from(io::ErrorKind::NotFound))
+}

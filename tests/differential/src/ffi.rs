@@ -1,0 +1,187 @@
+//! The C interface of libhpcdb.a: every function as it is exported, and a safe function of the same name over slices. A
+//! slice is lent as a pointer and a length, `out` as a pointer to just so many words; all answer with a code. Sentinels
+//! around what is lent are `lent`'s.
+
+/// Functions that lend nothing but the file and `out`, with the numbers that they take.
+macro_rules! word_functions {
+    ($($name:ident($($number:ident),*) -> $words:literal;)*) => {
+        mod words {
+            extern "C" {
+                $(pub fn $name(file: *const u8, file_length: usize, $($number: u64,)* out: *mut [u64; $words]) -> u32;)*
+            }
+        }
+        $(
+            pub fn $name(file: &[u8], $($number: u64,)* out: &mut [u64; $words]) -> u32 {
+                // SAFETY: the file's pointer is valid for its length, `out` for its words.
+                unsafe { words::$name(file.as_ptr(), file.len(), $($number,)* out) }
+            }
+        )*
+    };
+}
+
+word_functions! {
+    hpcdb_meta_open() -> 16;
+    hpcdb_profile_open() -> 1;
+    hpcdb_cct_open() -> 1;
+    hpcdb_trace_open() -> 1;
+    hpcdb_meta_counts() -> 5;
+    hpcdb_meta_title() -> 2;
+    hpcdb_meta_description() -> 2;
+    hpcdb_meta_id_name(kind) -> 2;
+    hpcdb_meta_metric(i) -> 3;
+    hpcdb_meta_scope(i, j) -> 4;
+    hpcdb_meta_summary(i, j, k) -> 4;
+    hpcdb_meta_module(i) -> 2;
+    hpcdb_meta_file(i) -> 3;
+    hpcdb_meta_function(i) -> 7;
+    hpcdb_cct_totals(context, metric) -> 6;
+    hpcdb_profile_tuple(profile) -> 1;
+    hpcdb_profile_identifier(profile, k) -> 4;
+    hpcdb_trace_line(i) -> 2;
+    hpcdb_trace_sample(i, k) -> 2;
+    hpcdb_trace_at(i, time) -> 3;
+}
+
+/// Functions that lend slices besides the file.
+mod slices {
+    extern "C" {
+        pub fn hpcdb_meta_walk(
+            file: *const u8,
+            file_length: usize,
+            listing: *mut u64,
+            listing_length: usize,
+            table: *mut u64,
+            table_length: usize,
+            out: *mut [u64; 1],
+        ) -> u32;
+        pub fn hpcdb_meta_records(
+            file: *const u8,
+            file_length: usize,
+            listing: *mut u64,
+            listing_length: usize,
+            table: *mut u64,
+            table_length: usize,
+            records: *mut u64,
+            records_length: usize,
+            out: *mut [u64; 1],
+        ) -> u32;
+        pub fn hpcdb_profile_lookup(
+            file: *const u8,
+            file_length: usize,
+            profile: u64,
+            context: u64,
+            metric: u64,
+            out: *mut u8,
+            out_length: usize,
+        ) -> u32;
+        pub fn hpcdb_cct_lookup(
+            file: *const u8,
+            file_length: usize,
+            profile: u64,
+            context: u64,
+            metric: u64,
+            out: *mut u8,
+            out_length: usize,
+        ) -> u32;
+        pub fn hpcdb_profile_lookup_many(
+            file: *const u8,
+            file_length: usize,
+            profile: u64,
+            pairs: *const u64,
+            pairs_length: usize,
+            answers: *mut u64,
+            answers_length: usize,
+        ) -> u32;
+        pub fn hpcdb_cct_lookup_many(
+            file: *const u8,
+            file_length: usize,
+            context: u64,
+            pairs: *const u64,
+            pairs_length: usize,
+            answers: *mut u64,
+            answers_length: usize,
+        ) -> u32;
+    }
+}
+
+pub fn hpcdb_meta_walk(file: &[u8], listing: &mut [u64], table: &mut [u64], out: &mut [u64; 1]) -> u32 {
+    // SAFETY: each slice's pointer is valid for the length behind it, `out` for its word.
+    unsafe {
+        slices::hpcdb_meta_walk(
+            file.as_ptr(),
+            file.len(),
+            listing.as_mut_ptr(),
+            listing.len(),
+            table.as_mut_ptr(),
+            table.len(),
+            out,
+        )
+    }
+}
+
+pub fn hpcdb_meta_records(
+    file: &[u8],
+    listing: &mut [u64],
+    table: &mut [u64],
+    records: &mut [u64],
+    out: &mut [u64; 1],
+) -> u32 {
+    // SAFETY: each slice's pointer is valid for the length behind it, `out` for its word.
+    unsafe {
+        slices::hpcdb_meta_records(
+            file.as_ptr(),
+            file.len(),
+            listing.as_mut_ptr(),
+            listing.len(),
+            table.as_mut_ptr(),
+            table.len(),
+            records.as_mut_ptr(),
+            records.len(),
+            out,
+        )
+    }
+}
+
+pub fn hpcdb_profile_lookup(file: &[u8], profile: u64, context: u64, metric: u64, out: &mut [u8]) -> u32 {
+    // SAFETY: each slice's pointer is valid for the length behind it.
+    unsafe {
+        slices::hpcdb_profile_lookup(file.as_ptr(), file.len(), profile, context, metric, out.as_mut_ptr(), out.len())
+    }
+}
+
+pub fn hpcdb_cct_lookup(file: &[u8], profile: u64, context: u64, metric: u64, out: &mut [u8]) -> u32 {
+    // SAFETY: each slice's pointer is valid for the length behind it.
+    unsafe {
+        slices::hpcdb_cct_lookup(file.as_ptr(), file.len(), profile, context, metric, out.as_mut_ptr(), out.len())
+    }
+}
+
+pub fn hpcdb_profile_lookup_many(file: &[u8], profile: u64, pairs: &[u64], answers: &mut [u64]) -> u32 {
+    // SAFETY: each slice's pointer is valid for the length behind it.
+    unsafe {
+        slices::hpcdb_profile_lookup_many(
+            file.as_ptr(),
+            file.len(),
+            profile,
+            pairs.as_ptr(),
+            pairs.len(),
+            answers.as_mut_ptr(),
+            answers.len(),
+        )
+    }
+}
+
+pub fn hpcdb_cct_lookup_many(file: &[u8], context: u64, pairs: &[u64], answers: &mut [u64]) -> u32 {
+    // SAFETY: each slice's pointer is valid for the length behind it.
+    unsafe {
+        slices::hpcdb_cct_lookup_many(
+            file.as_ptr(),
+            file.len(),
+            context,
+            pairs.as_ptr(),
+            pairs.len(),
+            answers.as_mut_ptr(),
+            answers.len(),
+        )
+    }
+}

@@ -1,0 +1,136 @@
+//! Files to compare over: sound ones of every shape, and damaged ones.
+
+mod blocks;
+mod damage;
+mod image;
+pub mod large;
+mod meta;
+mod plan;
+mod questions;
+mod rng;
+mod trace;
+mod tree;
+
+pub use questions::{follow_ups, questions};
+pub use rng::Rng;
+
+use crate::question::Database;
+use crate::reader;
+use image::{Field, FieldKind, Image};
+
+/// A generated file, and what is known of it, so that questions can be about what is there.
+pub struct Specimen {
+    pub database: Database,
+    pub bytes: Vec<u8>,
+    pub known: Known,
+    /// what was done to a sound file
+    pub damage: Vec<String>,
+    /// the position of an element that was damaged
+    focus: Option<usize>,
+    fields: Vec<Field>,
+}
+
+pub enum Known {
+    Meta(meta::Known),
+    Blocks(blocks::Known),
+    Trace(trace::Known),
+}
+
+/// A file of any kind, seven in ten damaged.
+pub fn specimen(rng: &mut Rng) -> Specimen {
+    let mut specimen = match rng.below(20) {
+        0..8 => meta::specimen(rng),
+        8..12 => blocks::specimen(rng, &blocks::PROFILE_MAJOR),
+        12..16 => blocks::specimen(rng, &blocks::CONTEXT_MAJOR),
+        _ => trace::specimen(rng),
+    };
+    let times = rng.pick(&[0, 0, 0, 1, 1, 1, 1, 1, 2, 3]);
+    for _ in 0..times {
+        damage::damage(rng, &mut specimen);
+    }
+    specimen
+}
+
+impl Specimen {
+    fn sound(database: Database, image: Image, known: Known) -> Specimen {
+        Specimen { database, bytes: image.bytes, known, damage: Vec::new(), focus: None, fields: image.fields }
+    }
+
+    /// Whether the reader opens it.
+    pub fn opens(&self) -> bool {
+        match self.database {
+            Database::Meta => reader::meta::counts(&self.bytes).is_ok(),
+            Database::Profile => reader::profile::count(&self.bytes).is_ok(),
+            Database::Cct => reader::cct::count(&self.bytes).is_ok(),
+            Database::Trace => reader::trace::count(&self.bytes).is_ok(),
+        }
+    }
+}
+
+const fn magic(database: Database) -> &'static [u8; 14] {
+    match database {
+        Database::Meta => b"HPCTOOLKITmeta",
+        Database::Profile => b"HPCTOOLKITprof",
+        Database::Cct => b"HPCTOOLKITctxt",
+        Database::Trace => b"HPCTOOLKITtrce",
+    }
+}
+
+/// In trace.db any eight bytes will do.
+const fn footer(database: Database) -> Option<&'static [u8; 8]> {
+    match database {
+        Database::Meta => Some(b"_meta.db"),
+        Database::Profile => Some(b"_prof.db"),
+        Database::Cct => Some(b"__ctx.db"),
+        Database::Trace => None,
+    }
+}
+
+const fn header_end(database: Database) -> usize {
+    match database {
+        Database::Meta => 144,
+        Database::Profile => 48,
+        Database::Cct | Database::Trace => 32,
+    }
+}
+
+/// Filler from the header to the footer, with header and footer written. Sections are places and sizes; one of size 0
+/// has a wild pointer.
+fn framed(rng: &mut Rng, database: Database, sections: &[(usize, usize)], body_end: usize) -> Image {
+    let mut image = Image::filled(rng, body_end + 8);
+    image.put_bytes(0, magic(database));
+    image.remember(FieldKind::Magic, rng.below(14), 1);
+    image.put(FieldKind::MajorVersion, 14, 1, 4);
+    image.put(FieldKind::MinorVersion, 15, 1, rng.pick(&[0, 0, 0, 1, 200, 255]));
+    for (k, (place, size)) in sections.iter().enumerate() {
+        let place = if *size == 0 { rng.edge() } else { *place as u64 };
+        image.put(FieldKind::SectionSize, 16 + 16 * k, 8, *size as u64);
+        image.put(FieldKind::SectionPlace, 24 + 16 * k, 8, place);
+    }
+    if let Some(footer) = footer(database) {
+        image.put_bytes(body_end, footer);
+        image.remember(FieldKind::Footer, body_end + rng.below(8), 1);
+    }
+    image
+}
+
+/// How many elements an array has: mostly few.
+fn count(rng: &mut Rng) -> usize {
+    if rng.one_in(80) {
+        return rng.between(10, 300);
+    }
+    rng.pick(&[0, 1, 1, 2, 2, 3, 3, 4, 5])
+}
+
+/// A stride of at least `least`, in a field of `width` bytes: mostly the least itself, seldom the greatest possible.
+fn stride(rng: &mut Rng, least: usize, width: usize) -> usize {
+    let steps = match rng.below(12) {
+        0..6 => 0,
+        6..9 => rng.between(1, 4),
+        9 => rng.below((256 - least) / 8),
+        10 => (255 - least) / 8,
+        _ if width == 2 && rng.one_in(40) => (65535 - least) / 8,
+        _ => 1,
+    };
+    least + 8 * steps
+}

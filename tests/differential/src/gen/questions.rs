@@ -1,0 +1,251 @@
+//! Questions about a file: of what is there, of its neighbours, of what is far away; with too little, just enough and
+//! more room.
+
+use std::iter;
+
+use super::rng::Rng;
+use super::{blocks, meta, trace, Known, Specimen};
+use crate::question::Function::{self, *};
+use crate::question::{Database, Question, FUNCTIONS};
+use crate::reader::walk::RECORD_WORDS;
+
+/// Files longer than this are asked less.
+const LONG: usize = 100_000;
+
+pub fn questions(rng: &mut Rng, specimen: &Specimen) -> Vec<Question> {
+    let count = if specimen.bytes.len() > LONG { 6 } else { rng.between(8, 16) };
+    (0..count).map(|_| question(rng, specimen)).collect()
+}
+
+/// A walk that a refusal ended is asked again with room for as many contexts as it listed, for one more and for one
+/// less: a listing that is full does not hide a refusal, and one that is too short does.
+pub fn follow_ups(question: &Question, code: u32, out: &[u64]) -> Vec<Question> {
+    // 7 may be opening's too
+    let within_the_tree = [7, 9, 10, 12, 13, 14].contains(&code);
+    if !within_the_tree || !matches!(question.function, MetaWalk | MetaRecords) {
+        return Vec::new();
+    }
+    let listed = out[0] as usize;
+    let listings = [listed.checked_sub(1), Some(listed), Some(listed + 1)];
+    let again = |listing| Question { rooms: [listing, question.rooms[1], question.rooms[2]], ..question.clone() };
+    listings.into_iter().flatten().map(again).collect()
+}
+
+/// How often each function is asked of a file of its kind: those with more to find more often.
+const WEIGHTS: [(Function, usize); 26] = [
+    (MetaOpen, 1),
+    (MetaCounts, 1),
+    (MetaTitle, 1),
+    (MetaDescription, 1),
+    (MetaIdName, 2),
+    (MetaMetric, 2),
+    (MetaScope, 3),
+    (MetaSummary, 4),
+    (MetaModule, 2),
+    (MetaFile, 2),
+    (MetaFunction, 4),
+    (MetaWalk, 5),
+    (MetaRecords, 5),
+    (ProfileOpen, 1),
+    (ProfileTuple, 2),
+    (ProfileIdentifier, 2),
+    (ProfileLookup, 4),
+    (ProfileLookupMany, 3),
+    (CctOpen, 1),
+    (CctTotals, 5),
+    (CctLookup, 4),
+    (CctLookupMany, 3),
+    (TraceOpen, 1),
+    (TraceLine, 2),
+    (TraceSample, 3),
+    (TraceAt, 4),
+];
+
+fn some_function(rng: &mut Rng, database: Database) -> Function {
+    let of_database = || WEIGHTS.iter().filter(|(function, _)| function.row().database == database);
+    let chosen = rng.below(of_database().map(|(_, weight)| weight).sum());
+    let mut weighted = of_database().flat_map(|(function, weight)| iter::repeat_n(*function, *weight));
+    weighted.nth(chosen).expect("a number below the sum of the weights")
+}
+
+fn question(rng: &mut Rng, specimen: &Specimen) -> Question {
+    if rng.one_in(40) {
+        // a function of any file
+        return stray_question(rng);
+    }
+    let function = some_function(rng, specimen.database);
+    match &specimen.known {
+        Known::Meta(known) => meta_question(rng, function, known, specimen.focus),
+        Known::Blocks(known) => blocks_question(rng, function, known, specimen.focus),
+        Known::Trace(known) => trace_question(rng, function, known, specimen.focus),
+    }
+}
+
+fn stray_question(rng: &mut Rng) -> Question {
+    let row = &FUNCTIONS[rng.below(FUNCTIONS.len())];
+    let mut numbers = [0; 3];
+    numbers[..row.numbers].fill_with(|| rng.edge());
+    let mut question = Question::new(row.function, numbers);
+    match row.function {
+        MetaWalk | MetaRecords => {
+            question.rooms = [rng.below(5), rng.below(5), if row.function == MetaRecords { rng.below(30) } else { 0 }];
+        }
+        ProfileLookup | CctLookup => question.value_room = rng.below(12),
+        ProfileLookupMany | CctLookupMany => {
+            question.pairs = (0..rng.below(6)).map(|_| rng.edge()).collect();
+            question.rooms[0] = rng.below(8);
+        }
+        _ => {}
+    }
+    question
+}
+
+/// A position in an array of `count`: mostly one that is there, else just behind the last, or one that would be there
+/// if the number, or its product with a stride, were taken modulo 2^16, 2^32 or 2^64.
+fn position(rng: &mut Rng, count: usize, focus: Option<usize>) -> u64 {
+    let there = match focus {
+        Some(focus) if focus < count && !rng.one_in(3) => focus,
+        _ => rng.below(count.max(1)),
+    } as u64;
+    match rng.below(16) {
+        0 => count as u64,
+        1 => (count as u64).wrapping_sub(1),
+        2 => there.wrapping_add(1 << rng.pick(&[8, 16, 32, 59, 60, 61, 63])),
+        3 => rng.edge(),
+        _ => there,
+    }
+}
+
+/// An id that is there, mostly; else a neighbour, or one that is there modulo 2^16 or 2^32.
+fn near_id(rng: &mut Rng, id: u64) -> u64 {
+    match rng.below(16) {
+        0 => id.wrapping_add(1),
+        1 => id.wrapping_sub(1),
+        2 => id.wrapping_add(1 << rng.pick(&[8, 16, 32, 48, 63])),
+        3 => rng.edge(),
+        _ => id,
+    }
+}
+
+/// A length around `exact`.
+fn room(rng: &mut Rng, exact: usize) -> usize {
+    match rng.below(12) {
+        0 => 0,
+        1 => 1,
+        2 => exact + 1,
+        3 => exact.saturating_sub(1),
+        4 => exact + rng.below(20),
+        5 => rng.below(exact + 1),
+        _ => exact,
+    }
+}
+
+fn meta_question(rng: &mut Rng, function: Function, known: &meta::Known, focus: Option<usize>) -> Question {
+    let mut at = |count| position(rng, count, focus);
+    let numbers = match function {
+        MetaIdName => [at(known.kinds), 0, 0],
+        MetaModule => [at(known.modules), 0, 0],
+        MetaFile => [at(known.files), 0, 0],
+        MetaFunction => [at(known.functions), 0, 0],
+        MetaMetric | MetaScope | MetaSummary => {
+            let i = at(known.metrics.len());
+            let scopes = known.metrics.get(i as usize).map_or(&[][..], Vec::as_slice);
+            let j = if function == MetaMetric { 0 } else { position(rng, scopes.len(), None) };
+            let summaries = scopes.get(j as usize).copied().unwrap_or_default();
+            let k = if function == MetaSummary { position(rng, summaries, None) } else { 0 };
+            [i, j, k]
+        }
+        _ => [0; 3],
+    };
+    let mut question = Question::new(function, numbers);
+    if matches!(function, MetaWalk | MetaRecords) {
+        let listing = room(rng, known.contexts);
+        let slots = known.greatest_id as usize + 1;
+        let table = if rng.one_in(3) { room(rng, slots) } else { slots + rng.below(3) };
+        let records = if function == MetaRecords { room_for_records(rng, known.contexts) } else { 0 };
+        question.rooms = [listing, table, records];
+    }
+    question
+}
+
+/// Also room for a part of a record.
+fn room_for_records(rng: &mut Rng, contexts: usize) -> usize {
+    if rng.one_in(4) {
+        return rng.below(RECORD_WORDS * (contexts + 1));
+    }
+    room(rng, RECORD_WORDS * contexts)
+}
+
+/// A value that is there, in the damaged block if there is one.
+fn some_value(rng: &mut Rng, known: &blocks::Known, focus: Option<usize>) -> [u64; 3] {
+    if known.values.is_empty() {
+        return [rng.below(4) as u64, rng.below(4) as u64, rng.below(4) as u64];
+    }
+    let any = rng.pick(&known.values);
+    let Some(focus) = focus else {
+        return any;
+    };
+    let of_focus: Vec<[u64; 3]> = known.values.iter().filter(|value| value[0] == focus as u64).copied().collect();
+    if of_focus.is_empty() || rng.one_in(4) {
+        any
+    } else {
+        rng.pick(&of_focus)
+    }
+}
+
+fn blocks_question(rng: &mut Rng, function: Function, known: &blocks::Known, focus: Option<usize>) -> Question {
+    let [element, index_id, value_id] = some_value(rng, known, focus);
+    let element = position(rng, known.elements, Some(element as usize));
+    let (index_id, value_id) = (near_id(rng, index_id), near_id(rng, value_id));
+    let numbers = match function {
+        ProfileLookup => [element, index_id, value_id],
+        // profile, context, metric: the block is the context's, its indices are metrics
+        CctLookup => [value_id, element, index_id],
+        CctTotals => [element, index_id, 0],
+        ProfileIdentifier => {
+            [element, position(rng, known.tuples.get(element as usize).copied().unwrap_or_default(), None), 0]
+        }
+        ProfileOpen | CctOpen => [0; 3],
+        _ => [element, 0, 0],
+    };
+    let mut question = Question::new(function, numbers);
+    match function {
+        ProfileLookup | CctLookup => question.value_room = rng.pick(&[8, 8, 8, 8, 8, 8, 8, 8, 8, 9, 16, 16, 7, 0]),
+        ProfileLookupMany | CctLookupMany => {
+            question.pairs = pairs(rng, known, element);
+            let exact = question.pairs.len() / 2 * 2;
+            question.rooms[0] = if rng.one_in(2) { exact } else { room(rng, exact) };
+        }
+        _ => {}
+    }
+    question
+}
+
+/// Pairs about one block, at times with a word that belongs to none.
+fn pairs(rng: &mut Rng, known: &blocks::Known, element: u64) -> Vec<u64> {
+    let count = if rng.one_in(30) { 300 } else { rng.below(12) };
+    let mut pairs = Vec::new();
+    for _ in 0..count {
+        let [_, index_id, value_id] = some_value(rng, known, Some(element as usize));
+        pairs.extend([near_id(rng, index_id), near_id(rng, value_id)]);
+    }
+    if rng.one_in(4) {
+        pairs.push(rng.edge());
+    }
+    pairs
+}
+
+fn trace_question(rng: &mut Rng, function: Function, known: &trace::Known, focus: Option<usize>) -> Question {
+    if function == TraceOpen {
+        return Question::new(function, [0; 3]);
+    }
+    let i = position(rng, known.lines.len(), focus);
+    let line = known.lines.get(i as usize).map_or(&[][..], Vec::as_slice);
+    let second = match (function, rng.pick_any(line)) {
+        (TraceSample, _) => position(rng, line.len(), None),
+        (TraceAt, Some(timestamp)) => near_id(rng, timestamp),
+        (TraceAt, None) => rng.edge(),
+        _ => 0,
+    };
+    Question::new(function, [i, second, 0])
+}

@@ -1,0 +1,45 @@
+//! An independent reader of HPCToolkit 4.0 databases in plain safe Rust, written from document 01 (the rules) and
+//! document 004 (the format) alone. Every function takes the bytes of a file and opens them afresh.
+
+pub mod cct;
+pub mod meta;
+pub mod profile;
+pub mod trace;
+pub mod walk;
+
+mod block;
+mod bytes;
+mod infos;
+mod opening;
+mod text;
+
+pub use bytes::Span;
+pub use text::Text;
+
+/// Why a file, an element or a question is refused; the discriminants are document 01's numbers.
+#[derive(Clone, Copy, PartialEq, Eq, Debug)]
+pub enum Refusal {
+    Short = 1,
+    Magic,
+    Version,
+    Footer,
+    Section,
+    Stride,
+    Array,
+    String,
+    Link,
+    Context,
+    Order,
+    Deep,
+    Slot,
+    Twice,
+    Index,
+    NotFinite,
+    Room,
+}
+
+impl Refusal {
+    pub fn number(self) -> u32 {
+        self as u32
+    }
+}

@@ -1,0 +1,168 @@
+//! What a run met: how often each function gave each code, and some kinds of answers that codes do not tell apart. A
+//! run that met too little of something fails, so that the generator cannot go stale unseen.
+
+use std::collections::BTreeMap;
+use std::fmt::Write as _;
+
+use crate::by_reader::{ABSENT, ANSWERED, CUT};
+use crate::compare::Reply;
+use crate::gen::Specimen;
+use crate::question::Function::*;
+use crate::question::{Database, Question, Row, FUNCTIONS};
+use crate::reader::walk::RECORD_WORDS;
+
+/// Codes of opening.
+const OPENING: [u32; 7] = [1, 2, 3, 4, 5, 6, 7];
+const FOOTER: u32 = 4;
+
+/// Each code that a function can give is to occur this often in a run of full length, each kind of answer too.
+const LEAST: u64 = 50;
+
+const CODES: usize = CUT as usize + 1;
+
+#[derive(Default)]
+pub struct Tally {
+    pub cases: u64,
+    codes: Vec<[u64; CODES]>,
+    kinds: BTreeMap<&'static str, u64>,
+}
+
+/// Kinds of answers and files that a run has to meet.
+const KINDS: [&str; 20] = [
+    "sound file",
+    "damaged file",
+    "name in the file",
+    "placeholder for a name",
+    "copied file",
+    "file not copied",
+    "refused 7 with contexts listed",
+    "refused 9 with contexts listed",
+    "refused 10 with contexts listed",
+    "refused 12 with contexts listed",
+    "refused 13 with contexts listed",
+    "refused 14 with contexts listed",
+    "cut with nothing listed",
+    "whole tree of no context",
+    "whole tree of more than 100 contexts",
+    "room that ends inside a record",
+    "infinite sum of finite values",
+    "lookup in a large block",
+    "empty trace line",
+    "batch with an odd last word",
+];
+
+impl Tally {
+    pub fn new() -> Tally {
+        Tally { codes: vec![[0; CODES]; FUNCTIONS.len()], ..Tally::default() }
+    }
+
+    pub fn add_file(&mut self, specimen: &Specimen) {
+        self.add_kind(if specimen.damage.is_empty() { "sound file" } else { "damaged file" });
+    }
+
+    fn add_kind(&mut self, kind: &'static str) {
+        *self.kinds.entry(kind).or_default() += 1;
+    }
+
+    pub fn add_case(&mut self, question: &Question, file_length: usize, reply: &Reply) {
+        self.cases += 1;
+        self.codes[question.function as usize][reply.code as usize] += 1;
+        let out = reply.memory.out.body();
+        match question.function {
+            MetaWalk | MetaRecords => self.add_walk(question, reply.code, out[0]),
+            _ if reply.code != ANSWERED => {}
+            MetaFunction => self.add_kind(if out[0] == 0 { "name in the file" } else { "placeholder for a name" }),
+            MetaFile => self.add_kind(if out[2] == 1 { "copied file" } else { "file not copied" }),
+            CctTotals if f64::from_bits(out[5]).is_infinite() => self.add_kind("infinite sum of finite values"),
+            ProfileLookup | CctLookup if file_length > 600_000 => self.add_kind("lookup in a large block"),
+            TraceLine if out[1] == 0 => self.add_kind("empty trace line"),
+            ProfileLookupMany | CctLookupMany if question.pairs.len() % 2 == 1 => {
+                self.add_kind("batch with an odd last word")
+            }
+            _ => {}
+        }
+    }
+
+    fn add_walk(&mut self, question: &Question, code: u32, listed: u64) {
+        match (code, listed) {
+            (CUT, 0) => self.add_kind("cut with nothing listed"),
+            (ANSWERED, 0) => self.add_kind("whole tree of no context"),
+            (ANSWERED, 101..) => self.add_kind("whole tree of more than 100 contexts"),
+            (7, 1..) => self.add_kind("refused 7 with contexts listed"),
+            (9, 1..) => self.add_kind("refused 9 with contexts listed"),
+            (10, 1..) => self.add_kind("refused 10 with contexts listed"),
+            (12, 1..) => self.add_kind("refused 12 with contexts listed"),
+            (13, 1..) => self.add_kind("refused 13 with contexts listed"),
+            (14, 1..) => self.add_kind("refused 14 with contexts listed"),
+            _ => {}
+        }
+        let room = question.rooms[2];
+        if !room.is_multiple_of(RECORD_WORDS) && room / RECORD_WORDS < listed as usize {
+            self.add_kind("room that ends inside a record");
+        }
+    }
+
+    fn of(&self, row: &Row, code: u32) -> u64 {
+        self.codes[row.function as usize][code as usize]
+    }
+
+    /// What occurred too seldom, and codes that a function cannot give.
+    pub fn shortfalls(&self) -> Vec<String> {
+        let mut found = Vec::new();
+        for row in &FUNCTIONS {
+            for code in 0..CODES as u32 {
+                let count = self.of(row, code);
+                let possible = can_give(row, code);
+                if possible && count < LEAST || !possible && count > 0 {
+                    found.push(format!("{} gave {code} {count} times", row.name));
+                }
+            }
+        }
+        for kind in KINDS {
+            let count = self.kinds.get(kind).copied().unwrap_or_default();
+            if count < LEAST {
+                found.push(format!("{kind}: {count} times"));
+            }
+        }
+        found
+    }
+
+    /// Cases of each function, in one line.
+    pub fn line(&self) -> String {
+        let counts = FUNCTIONS
+            .iter()
+            .map(|row| format!("{} {}", row.name, self.codes[row.function as usize].iter().sum::<u64>()));
+        format!("{} cases, no difference: {}", self.cases, counts.collect::<Vec<_>>().join(", "))
+    }
+
+    /// A row for each function with its codes, a row for each code, and the kinds.
+    pub fn table(&self) -> String {
+        let mut table = String::new();
+        let met = |count: &dyn Fn(u32) -> u64| {
+            let counted = (0..CODES as u32).filter(|code| count(*code) > 0);
+            counted.map(|code| format!("{}: {}", code_name(code), count(code))).collect::<Vec<_>>().join(", ")
+        };
+        for row in &FUNCTIONS {
+            let _ = writeln!(table, "{}  {}", row.name, met(&|code| self.of(row, code)));
+        }
+        let _ = writeln!(table, "all  {}", met(&|code| FUNCTIONS.iter().map(|row| self.of(row, code)).sum()));
+        for (kind, count) in &self.kinds {
+            let _ = writeln!(table, "{kind}: {count}");
+        }
+        table
+    }
+}
+
+fn code_name(code: u32) -> String {
+    match code {
+        ANSWERED => "answered".to_owned(),
+        ABSENT => "absent".to_owned(),
+        CUT => "cut".to_owned(),
+        refusal => refusal.to_string(),
+    }
+}
+
+fn can_give(row: &Row, code: u32) -> bool {
+    let of_opening = OPENING.contains(&code) && !(code == FOOTER && row.database == Database::Trace);
+    of_opening || row.codes.contains(&code)
+}
