@@ -34,8 +34,10 @@ check: lib
 	@$(CARGO) test --quiet --release --manifest-path $(DIFFERENTIAL)
 	@$(CARGO) run --quiet --release --manifest-path $(DIFFERENTIAL) --bin differential
 
+# The reader's loops are aligned as the library's are, where they run best.
+bench: export RUSTFLAGS = -Cllvm-args=-x86-experimental-pref-innermost-loop-alignment=6
 bench: lib
-	@$(CARGO) run --quiet --release --manifest-path $(DIFFERENTIAL) --bin bench
+	@CARGO_TARGET_DIR=$(CURDIR)/target/cargo-bench cargo run --quiet --release --manifest-path $(DIFFERENTIAL) --bin bench
 
 install: lib
 	install -d $(DESTDIR)$(PREFIX)/include $(DESTDIR)$(PREFIX)/lib/pkgconfig

@@ -14,7 +14,7 @@ pub enum Count {
 fn elements(file: &[u8], at: u64) -> u64
     ensures { λ r. ⌜ r ≡ infosArray (now (file .entry)) at .count ⌝ }
 {
-    array::of_infos(file, at).count
+    le::u32_at(file, at, 8) as u64
 }
 
 // Profiles of profile.db.

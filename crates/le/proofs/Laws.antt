@@ -1,10 +1,10 @@
--- Laws of `number`: by its first byte, by its first m bytes, and past the end. All else about reads follows from `split`, `past`
+-- Laws of `number`: by its first byte, by its first m bytes, past the end, and byte by byte. All else about reads follows from `split`, `past`
 -- and `clamped`.
-use Prim.Native.Nat.{ℕ, zero, suc, _+_, _*_, _^_, _≤_, _<_, min}
+use Prim.Native.Nat.{ℕ, zero, suc, _+_, _-_, _*_, _^_, _≤_, _<_, min}
 use mathlib.Core.List.{List, [], _∷_}
 use mathlib.Core.Path.{_≡_, refl, ap, sym, _∙_}
 use native.Mathlib.Numerals.{add-one}
-use native.Mathlib.Nat.{zero-add, add-zero, suc-add, pow-succ', mul-assoc}
+use native.Mathlib.Nat.{zero-add, add-zero, suc-add, pow-succ', pow-le-pow-right, mul-assoc}
 use native.Mathlib.Decide.{decLe}
 use native.Mathlib.Omega.{arith}
 use lib.ListN.{length, getD, take, drop, drop-of-length-le}
@@ -51,10 +51,41 @@ clamped n s at i e =
       | no h ↦ past n s i (omega arith) ∙ sym (past n s at (omega arith))
     ]
 
--- two halves, read from such a place
-pub halves : (m : ℕ) (s : List ℕ) (at i : ℕ) → i ≡ min at (length s) → number (m + m) s at ≡ number m s (i + 0) + 256 ^ m * number m s (i + m)
-halves m s at i e = rw (add-zero i) (sym (clamped (m + m) s at i e) ∙ split m m s i)
+-- byte by byte, the highest first: what is passed is the number of the bytes from k on
+pub record Passed (s : List ℕ) (i w n k : ℕ) : Type 0 where
+  pub within : k ≤ w
+  pub so-far : n ≡ number (w - k) s (i + k)
+  pub small : n < 256 ^ (w - k)
 
--- the only byte that is left
-pub last : (s : List ℕ) (at i : ℕ) → i ≡ min at (length s) → length s < i + 2 → number 2 s at ≡ number 1 s (i + 0)
-last s at i e h = rw (add-zero i) (omega (arith, clamped 2 s at i e, split 1 1 s i, past 1 s (i + 1) (omega arith)))
+pub passed-start : (s : List ℕ) (i w : ℕ) → Passed s i w 0 w
+passed-start s i w =
+    let e : w - w ≡ 0 = omega arith in
+    record { within = omega arith; so-far = rw e (sym (none s (i + w))); small = rw e (omega arith) }
+
+module _ {s : List ℕ} {i w n k : ℕ} (p : Passed s i w n k) (l : 0 < k) where
+  -- what one byte more makes of it
+  next-small : {b : ℕ} → b < 256 → n * 256 + b < 256 ^ (w - (k - 1))
+  next-small h =
+      let e : w - (k - 1) ≡ suc (w - k) = omega (arith, p .within) in
+      rw (e, pow-succ') (omega (arith, p .small))
+
+  pub next-fits : w ≤ 8 → {b : ℕ} → b < 256 → n * 256 + b < 256 ^ 8
+  next-fits m h =
+      let most : 256 ^ (w - (k - 1)) ≤ 256 ^ 8 = pow-le-pow-right {n = 256} (omega arith) {i = w - (k - 1)} {j = 8} (omega arith) in
+      omega (arith, next-small h)
+
+  pub passed-more : {b : ℕ} → b ≡ number 1 s (i + (k - 1)) → b < 256 → Passed s i w (n * 256 + b) (k - 1)
+  passed-more {b} e h =
+      let f : w - (k - 1) ≡ suc (w - k) = omega (arith, p .within) in
+      let g : number (w - k) s (i + (k - 1) + 1) ≡ number (w - k) s (i + k) = ap (number (w - k) s) (omega arith) in
+      record {
+        within = omega (arith, p .within);
+        so-far = rw f (omega (arith, step (w - k) s (i + (k - 1)), one s (i + (k - 1)), p .so-far, g));
+        small = next-small h;
+      }
+
+pub passed-all : {s : List ℕ} {i w n k : ℕ} → Passed s i w n k → k ≤ 0 → (n ≡ number w s i) × (n < 256 ^ w)
+passed-all {s} {i} {w} {n} {k} p l =
+    let e : w - k ≡ w = omega (arith, l) in
+    let f : i + k ≡ i = omega (arith, l) in
+    (rw (e, f) at (p .so-far), rw e at (p .small))

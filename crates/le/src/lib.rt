@@ -1,6 +1,6 @@
 // Little-endian numbers at a place of a file.
 ghost use mathlib.Core.Path.{_≡_};
-ghost use Prim.Native.Nat.{_+_, _≤_, _<_, min};
+ghost use Prim.Native.Nat.{_+_, _^_, _≤_, _<_, min};
 ghost use lib.ListN.{length};
 ghost use Rattle.le.specs.Number.{number};
 
@@ -59,6 +59,34 @@ fn place_in(file: &[u8], at: u64, offset: u64) -> usize
     }
 }
 
+// The byte at a place, or 0 past the end.
+fn byte(file: &[u8], i: usize) -> u64
+    ensures { λ r. ⌜ r ≡ number 1 (now (file .entry)) i ⌝ }
+    ensures { λ r. ⌜ r < 256 ⌝ }
+{
+    if i < file.len() {
+        wide(file[i]) as u64
+    } else {
+        0
+    }
+}
+
+// A number that the end of the file may cut, byte by byte.
+fn bytewise(file: &[u8], i: usize, w: usize) -> u64
+    requires { ⌜ i ≤ length (now file) ⌝ }
+    requires { ⌜ w ≤ 8 ⌝ }
+    ensures { λ r. ⌜ r ≡ number w (now (file .entry)) i ⌝ }
+    ensures { λ r. ⌜ r < 256 ^ w ⌝ }
+{
+    let mut n: u64 = 0;
+    let mut k = w;
+    while 0 < k {
+        k -= 1;
+        n = n * 256 + byte(file, i + k);
+    }
+    n
+}
+
 // Numbers at an offset from any place at all. What is past the end counts as 0.
 pub fn u8_at(file: &[u8], at: u64, offset: u64) -> u8
     ensures { λ r. ⌜ r ≡ number 1 (now (file .entry)) (at + offset) ⌝ }
@@ -74,7 +102,7 @@ pub fn u16_at(file: &[u8], at: u64, offset: u64) -> u16
     if 2 <= file.len() - i {
         return load_u16(file, i);
     }
-    u8_at(file, i as u64, 0) as u16
+    bytewise(file, i, 2) as u16
 }
 
 pub fn u32_at(file: &[u8], at: u64, offset: u64) -> u32
@@ -84,9 +112,7 @@ pub fn u32_at(file: &[u8], at: u64, offset: u64) -> u32
     if 4 <= file.len() - i {
         return load_u32(file, i);
     }
-    let low = u16_at(file, i as u64, 0) as u32;
-    let high = u16_at(file, i as u64, 2) as u32;
-    low + 0x1_0000 * high
+    bytewise(file, i, 4) as u32
 }
 
 pub fn u64_at(file: &[u8], at: u64, offset: u64) -> u64
@@ -96,7 +122,5 @@ pub fn u64_at(file: &[u8], at: u64, offset: u64) -> u64
     if 8 <= file.len() - i {
         return load_u64(file, i);
     }
-    let low = u32_at(file, i as u64, 0) as u64;
-    let high = u32_at(file, i as u64, 4) as u64;
-    low + 0x1_0000_0000 * high
+    bytewise(file, i, 8)
 }

@@ -1,12 +1,15 @@
 -- The field of the array.
+use Rattle.array.specs.Stored.{arrayOf}
+use Rattle.open.specs.Opening.{field}
 use borrow.Author.Needs.{needs}
 use Rattle.count.proofs.elements.Statement.{statement}
 use Rattle.count.proofs.elements.Tie as tie
 
 returns : tie.Need-returns
+unfolding arrayOf field
 returns c =
-    let of-infos = c .of-infos in
-    rw (of-infos .ensures)
+    let u32-at = c .u32-at in
+    u32-at .ensures
 
 pub elements-spec : {M : Type 1} → statement M
-elements-spec = tie.close (tie.spec (λ c κs. search needs) returns)
+elements-spec = tie.close (tie.spec (λ c κs. search needs) (λ c. search needs) returns)

@@ -1,20 +1,21 @@
--- A load inside the file; else two halves, each read as far as there are bytes.
-use Prim.Native.Nat.{_+_}
+-- A load inside the file; else byte by byte.
+use Rattle.le.proofs.Laws.{clamped}
 use mathlib.Core.Path.{_∙_}
 use borrow.Author.Needs.{needs}
-use native.Mathlib.Omega.{arith}
-use Rattle.le.proofs.Laws.{clamped, halves}
 use Rattle.le.proofs.u32_at.Statement.{statement}
 use Rattle.le.proofs.u32_at.Tie as tie
 
 returns : tie.Need-returns
-returns c = c .load-u32 .ensures ∙ clamped 4 _ _ _ (c .before .before .place-in .ensures)
+returns c =
+    let load-u32 = c .load-u32 in
+    let place-in = c .before .before .place-in in
+    load-u32 .ensures ∙ clamped 4 _ _ _ (place-in .ensures)
 
 returns-2 : tie.Need-returns-2
 returns-2 c =
-    let p = c .before .before .before in
-    let a = p .before .before .args in
-    omega (arith, halves 2 (a .file .now) (a .at + a .offset) (p .place-in .result) (p .place-in .ensures))
+    let bytewise = c .bytewise in
+    let place-in = c .before .before .place-in in
+    bytewise .ensures .0 ∙ clamped 4 _ _ _ (place-in .ensures)
 
 pub u32-at-spec : {M : Type 1} → statement M
 u32-at-spec =
@@ -25,9 +26,5 @@ u32-at-spec =
     (λ c κs. search needs)
     returns
     (λ c κs. search needs)
-    (λ c. search needs)
-    (λ c κs. search needs)
-    (λ c. search needs)
-    (λ c. search needs)
     (λ c. search needs)
     returns-2)
