@@ -2,6 +2,7 @@
 use Prim.Native.Nat.{ℕ, zero, suc, _+_, _*_, _/_}
 use mathlib.Core.Bool.{Bool}
 use mathlib.Core.List.{List, [], _++_}
+use mathlib.Core.Path.{_≡_}
 use lib.Dec.{leb}
 use lib.ListN.{length, getD}
 use Rattle.refusal.specs.declared.Refusal.the-variants as No
@@ -12,7 +13,7 @@ use Rattle.refusal.specs.Check.{rule, ifPassed}
 use Rattle.buffer.specs.Over.{over}
 use Rattle.block.specs.declared.Shape.{Shape}
 use Rattle.block.specs.declared.Block.{Block}
-use Rattle.block.specs.Block.{lookupIn, lookupWords}
+use Rattle.block.specs.Block.{lookupIn, lookupWords, Valid}
 use Rattle.lookup.specs.declared.Checked.{Checked}
 use Rattle.lookup.specs.declared.Checked.the-variants as Checked
 use Rattle.lookup.specs.Lookup.{onChecked}
@@ -41,3 +42,7 @@ batchCheck (Checked.Refused r) = Check.Refused r
 -- the answers after it: untouched where it is refused
 unfoldable pub batchAnswers : List ℕ → Shape → (pairs was : List ℕ) → Checked → List ℕ
 batchAnswers file h pairs was c = onChecked (λ r. was) c (λ b. answersIn file h b pairs was)
+
+-- what the code below these rules relies on: a block that is handed on has been checked
+abbrev pub Sound : List ℕ → Shape → Checked → Type 0
+Sound file h c = (b : Block) → c ≡ Checked.Valid b → Valid file h b

@@ -5,7 +5,7 @@ ghost use lib.ListN.{length};
 ghost use Rattle.buffer.specs.Over.{over};
 ghost use Rattle.block.specs.Block.{profileShape, cctShape, lookupWords, Valid};
 ghost use Rattle.lookup.specs.Lookup.{profileBlock, cctBlock};
-ghost use Rattle.batch.specs.Batch.{pairsIn, answersIn, batchBlock, batchCheck, batchAnswers};
+ghost use Rattle.batch.specs.Batch.{pairsIn, answersIn, batchBlock, batchCheck, batchAnswers, Sound};
 use block::Block;
 use block::Lookup;
 use block::Shape;
@@ -40,6 +40,22 @@ fn find_all(file: &[u8], h: Shape, b: Block, pairs: &[u64], answers: &mut [u64])
     }
 }
 
+// The same, or the refusal of the block.
+fn answer_all(file: &[u8], h: Shape, checked: Checked, pairs: &[u64], answers: &mut [u64]) -> Check
+    requires { ⌜ Sound (now file) h checked ⌝ }
+    requires { ⌜ 2 * pairsIn (now pairs) ≤ length (now answers) ⌝ }
+    ensures { λ r. ⌜ r ≡ batchCheck checked ⌝ }
+    ensures { λ _. ⌜ now (answers .exit) ≡ batchAnswers (now (file .entry)) h (now (pairs .entry)) (now (answers .entry)) checked ⌝ }
+{
+    match checked {
+        Checked::Valid(b) => {
+            find_all(file, h, b, pairs, answers);
+            Check::Passed
+        }
+        Checked::Refused(r) => Check::Refused(r),
+    }
+}
+
 // The values of contexts and metrics in a profile: 17, then as a lookup is refused.
 pub fn profile_lookups(file: &[u8], profile: u64, pairs: &[u64], answers: &mut [u64]) -> Check
     ensures { λ r. ⌜ r ≡ batchCheck (batchBlock (now (pairs .entry)) (now (answers .entry)) (profileBlock (now (file .entry)) profile)) ⌝ }
@@ -48,14 +64,9 @@ pub fn profile_lookups(file: &[u8], profile: u64, pairs: &[u64], answers: &mut [
     if answers.len() / 2 < pairs.len() / 2 {
         return Check::Refused(Refusal::Room);
     }
+    let h = block::profile_shape();
     let checked = lookup::profile_block(file, profile);
-    match checked {
-        Checked::Valid(b) => {
-            find_all(file, block::profile_shape(), b, pairs, answers);
-            Check::Passed
-        }
-        Checked::Refused(r) => Check::Refused(r),
-    }
+    answer_all(file, h, checked, pairs, answers)
 }
 
 // The values of metrics and profiles in a context.
@@ -66,12 +77,7 @@ pub fn cct_lookups(file: &[u8], context: u64, pairs: &[u64], answers: &mut [u64]
     if answers.len() / 2 < pairs.len() / 2 {
         return Check::Refused(Refusal::Room);
     }
+    let h = block::cct_shape();
     let checked = lookup::cct_block(file, context);
-    match checked {
-        Checked::Valid(b) => {
-            find_all(file, block::cct_shape(), b, pairs, answers);
-            Check::Passed
-        }
-        Checked::Refused(r) => Check::Refused(r),
-    }
+    answer_all(file, h, checked, pairs, answers)
 }

@@ -13,7 +13,7 @@ use Rattle.outside.specs.Outside.{lies}
 use Rattle.refusal.specs.declared.Refusal.{Refusal}
 use Rattle.refusal.specs.declared.Refusal.the-variants as No
 use Rattle.refusal.specs.declared.Check.{Check}
-use Rattle.refusal.specs.Check.{either, rule, first, ifPassed}
+use Rattle.refusal.specs.Check.{either, rule, first}
 use Rattle.refusal.specs.Number.{numberOf}
 use Rattle.open.specs.Format.{profile, cct}
 use Rattle.seq.specs.declared.Position.{Position}
@@ -119,10 +119,6 @@ module _ (file : List ℕ) (h : Shape) (b : Block) where
 
   unfoldable pub lookupIn : (outer inner : ℕ) → Lookup
   lookupIn outer inner = inPart inner (indexOf outer)
-
--- a lookup in a block of any bytes
-unfoldable pub blockLookup : List ℕ → Shape → (sections : List (List ℕ)) → Block → (outer inner : ℕ) → Lookup
-blockLookup file h sections b outer inner = ifPassed Refused (blockCheck file h sections b) (lookupIn file h b outer inner)
 
 -- an answer in words: 0 found, 100 absent, or the refusal's number; then the bits
 unfoldable pub lookupWords : Lookup → List ℕ

@@ -16,15 +16,16 @@ use Rattle.open.specs.Opening.{opening, pairAt, pairsFrom, pairs, placeIn, size
 use Rattle.meta.specs.Names.{counts}
 use Rattle.words.specs.Convention.{codeIn, wordsIn, flat, openWords, countsWords}
 use Rattle.words.proofs.Laws.{small, positive, refused}
+use Rattle.block.specs.Block.{lookupWords}
 use Rattle.block.specs.declared.Lookup.{Lookup}
-use Rattle.hpcdb.specs.Value.{lookupCode, valueIn, valueCode, valueBytes}
+use Rattle.hpcdb.specs.Value.{valueIn, valueCode, valueBytes}
 
 module _ (out : List ℕ) (answer : Lookup) where
   pub no-room : length out < 8 → (17 ≡ valueCode out answer) × (out ≡ valueBytes out answer)
   unfolding valueCode valueBytes either
   no-room h = (rw (lt-leb 8 (length out) h), rw (lt-leb 8 (length out) h))
 
-  pub room : 8 ≤ length out → (code : ℕ) (now : List ℕ) → code ≡ lookupCode answer → now ≡ valueIn out answer
+  pub room : 8 ≤ length out → (code : ℕ) (now : List ℕ) → code ≡ codeIn (lookupWords answer) → now ≡ valueIn out answer
       → (code ≡ valueCode out answer) × (now ≡ valueBytes out answer)
   unfolding valueCode valueBytes either
   room h code now e f = (rw (le-leb 8 (length out) h) e, rw (le-leb 8 (length out) h) f)

@@ -16,11 +16,11 @@ ghost use Rattle.tuple.specs.Tuple.{tupleAt, identifierAt, tupleWords, identifi
 ghost use Rattle.trace.specs.Trace.{lineAt, sampleAt, lastAt, lineWords, sampleWords, lastWords};
 ghost use Rattle.total.specs.Totals.{totalsWords};
 ghost use Rattle.cct.specs.Totals.{cctTotals};
-ghost use Rattle.block.specs.Block.{profileShape, cctShape};
+ghost use Rattle.block.specs.Block.{profileShape, cctShape, lookupWords};
 ghost use Rattle.lookup.specs.Lookup.{profileBlock, cctBlock, profileLookup, cctLookup};
 ghost use Rattle.batch.specs.Batch.{batchBlock, batchCheck, batchAnswers};
 ghost use Rattle.words.specs.Convention.{codeIn, valuesIn, wordsIn, sectionsWords, countsWords};
-ghost use Rattle.hpcdb.specs.Value.{lookupCode, valueIn, valueCode, valueBytes};
+ghost use Rattle.hpcdb.specs.Value.{valueIn, valueCode, valueBytes};
 use block::Lookup;
 use refusal::Check;
 
@@ -285,7 +285,7 @@ pub extern "C" fn hpcdb_trace_at(file: &[u8], i: u64, time: u64, out: &mut [u64;
 // The code, and the value in the first eight bytes.
 fn put_value(answer: Lookup, out: &mut [u8]) -> u32
     requires { ⌜ 8 ≤ length (now out) ⌝ }
-    ensures { λ r. ⌜ r ≡ lookupCode answer ⌝ }
+    ensures { λ r. ⌜ r ≡ codeIn (lookupWords answer) ⌝ }
     ensures { λ _. ⌜ now (out .exit) ≡ valueIn (now (out .entry)) answer ⌝ }
 {
     match answer {

@@ -1,4 +1,4 @@
--- By the room, then by the block.
+-- By the room.
 use Rattle.batch.proofs.Filling.{no-room, room}
 use Rattle.lookup.proofs.Laws.{cct-valid}
 use Rattle.lookup.specs.Lookup.{cctBlock, onChecked}
@@ -15,38 +15,28 @@ unfolding batchCheck batchAnswers onChecked
 returns c =
     let args = c .before .before .before .before .args in
     let if1 = c .if1 in
-    let r = no-room (now (args .pairs)) (now (args .answers)) (cctBlock (now (args .file)) (args .context)) (omega (arith, if1 .taken)) in (rw r, rw r)
+    let r = no-room (now (args .pairs)) (now (args .answers)) (cctBlock (now (args .file)) (args .context)) (omega (arith, if1 .taken)) in
+    (rw r, rw r)
 
-find-all-requires : tie.Need-find-all-requires
-find-all-requires c κs =
-    let cct-shape = c .before .cct-shape in
-    let args = c .before .before .before .before .before .before .before .before .before .before .args in
-    let cct-block = c .before .before .before .before .before .cct-block in
-    let checked = c .before .before .before .checked in
-    let if1 = c .before .before .before .before .before .before .if1 in
-    (rw (cct-shape .ensures) (cct-valid (now (args .file)) (args .context) _ (sym (cct-block .ensures) ∙ checked .given .1)), omega (arith, if1 .left))
+answer-all-requires : tie.Need-answer-all-requires
+answer-all-requires c κs =
+    let cct-shape = c .before .before .cct-shape in
+    let args = c .before .before .before .before .before .before .before .args in
+    let cct-block = c .before .cct-block in
+    let if1 = c .before .before .before .if1 in (
+      λ b e. rw (cct-shape .ensures) (cct-valid (now (args .file)) (args .context) b (sym (cct-block .ensures) ∙ e)),
+      omega (arith, if1 .left),
+    )
 
 returns-2 : tie.Need-returns-2
-unfolding batchCheck batchAnswers onChecked
 returns-2 c =
-    let args = c .before .before .before .before .before .before .before .before .before .before .before .before .before .args in
-    let if1 = c .before .before .before .before .before .before .before .before .before .if1 in
-    let cct-block = c .before .before .before .before .before .before .before .before .cct-block in
-    let checked = c .before .before .before .before .before .before .checked in
-    let cct-shape = c .before .before .before .before .cct-shape in
-    let find-all = c .before .before .find-all in
+    let args = c .before .before .before .before .before .before .before .before .before .before .args in
+    let if1 = c .before .before .before .before .before .before .if1 in
+    let cct-block = c .before .before .before .before .cct-block in
+    let cct-shape = c .before .before .before .before .before .cct-shape in
+    let answer-all = c .before .before .answer-all in
     let r = room (now (args .pairs)) (now (args .answers)) (cctBlock (now (args .file)) (args .context)) (omega (arith, if1 .left)) in
-    (rw (r, ← cct-block .ensures, checked .given .1), rw (r, ← cct-block .ensures, checked .given .1, ← cct-shape .ensures) (find-all .ensures))
-
-returns-3 : tie.Need-returns-3
-unfolding batchCheck batchAnswers onChecked
-returns-3 c =
-    let args = c .before .before .before .before .before .before .before .before .args in
-    let if1 = c .before .before .before .before .if1 in
-    let cct-block = c .before .before .before .cct-block in
-    let checked2 = c .before .checked2 in
-    let r = room (now (args .pairs)) (now (args .answers)) (cctBlock (now (args .file)) (args .context)) (omega (arith, if1 .left)) in
-    (rw (r, ← cct-block .ensures, checked2 .given .1), rw (r, ← cct-block .ensures, checked2 .given .1))
+    rw (r, ← cct-block .ensures, ← cct-shape .ensures) (answer-all .ensures)
 
 pub cct-lookups-spec : {M : Type 1} → statement M
 cct-lookups-spec =
@@ -54,10 +44,7 @@ cct-lookups-spec =
     (tie.spec
     returns
     (λ c κs. search needs)
-    (λ c. search needs)
     (λ c κs. search needs)
-    find-all-requires
+    answer-all-requires
     (λ c. search needs)
-    (λ c. search needs)
-    returns-2
-    returns-3)
+    returns-2)

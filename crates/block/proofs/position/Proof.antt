@@ -12,8 +12,11 @@ search-requires : tie.Need-search-requires
 search-requires c κs =
     let args = c .before .before .args in
     let if1 = c .if1 in
-    let pre = c .before .before .pre in
-    (subst (λ (w : ℕ). Array (now (args .file)) (args .at) w (args .n)) (if1 .taken) (pre .0), subst (λ (w : ℕ). Sorted (idAt w (now (args .file)) (args .at)) (args .n)) (if1 .taken) (pre .1))
+    let pre = c .before .before .pre in (
+      subst (λ (w : ℕ). Array (now (args .file)) (args .at) w (args .n)) (if1 .taken) (pre .0),
+      subst
+          (λ (w : ℕ). Sorted (idAt w (now (args .file)) (args .at)) (args .n)) (if1 .taken) (pre .1),
+    )
 
 returns : tie.Need-returns
 returns c =
@@ -27,8 +30,11 @@ search-requires-2 c κs =
     let if1 = c .if1 in
     let pre = c .before .before .pre in
     let args = c .before .before .args in
-    let four = (⊎-elim (λ q. absurd (if1 .left q)) (λ q. q) (pre .0 .width)) in
-    (subst (λ (w : ℕ). Array (now (args .file)) (args .at) w (args .n)) four (pre .0), subst (λ (w : ℕ). Sorted (idAt w (now (args .file)) (args .at)) (args .n)) four (pre .1))
+    let four = (⊎-elim (λ q. absurd (if1 .left q)) (λ q. q) (pre .0 .width)) in (
+      subst (λ (w : ℕ). Array (now (args .file)) (args .at) w (args .n)) four (pre .0),
+      subst
+          (λ (w : ℕ). Sorted (idAt w (now (args .file)) (args .at)) (args .n)) four (pre .1),
+    )
 
 returns-2 : tie.Need-returns-2
 returns-2 c =
@@ -36,7 +42,8 @@ returns-2 c =
     let args = c .before .before .before .args in
     let if1 = c .before .if1 in
     let pre = c .before .before .before .pre in
-    search2 .ensures ∙ ap (λ (w : ℕ). position (idAt w (now (args .file)) (args .at)) (args .key) (args .n)) (sym (⊎-elim (λ q. absurd (if1 .left q)) (λ q. q) (pre .0 .width)))
+    search2 .ensures ∙ ap (λ (w : ℕ). position (idAt w (now (args .file)) (args .at)) (args .key) (args .n))
+    (sym (⊎-elim (λ q. absurd (if1 .left q)) (λ q. q) (pre .0 .width)))
 
 pub position-spec : {M : Type 1} → statement M
 position-spec = tie.close (tie.spec search-requires returns search-requires-2 returns-2)

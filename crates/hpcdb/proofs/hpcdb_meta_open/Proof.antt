@@ -33,7 +33,8 @@ returns-2 c =
     let check-meta = c .before .before .before .before .check-meta in
     let check = c .before .before .check in
     let code = c .code in
-    let told = refuses meta (now (args .file)) (meta-sections .ensures) (check-meta .ensures) (λ r. numberOf r ∷ []) (0 ∷ flat (pairs meta (now (args .file)))) _ (check .given .1) in
+    let told = refuses meta (now (args .file)) (meta-sections .ensures) (check-meta .ensures) (λ r. numberOf r ∷ [])
+    (0 ∷ flat (pairs meta (now (args .file)))) _ (check .given .1) in
     refused (now (args .out)) (check .given .0 .0) [] (sym told) (code .ensures)
 
 pub hpcdb-meta-open-spec : {M : Type 1} → statement M

@@ -1,25 +1,27 @@
 -- By the answer.
 use mathlib.Core.Path.{refl}
-use Rattle.hpcdb.specs.Value.{lookupCode, valueIn}
+use Rattle.hpcdb.specs.Value.{valueIn}
+use Rattle.block.specs.Block.{lookupWords}
+use Rattle.words.specs.Convention.{codeIn}
 use borrow.Author.Needs.{needs}
 use Rattle.hpcdb.proofs.put_value.Statement.{statement}
 use Rattle.hpcdb.proofs.put_value.Tie as tie
 
 returns : tie.Need-returns
-unfolding lookupCode valueIn
+unfolding lookupWords codeIn valueIn
 returns c =
     let answer = c .before .before .before .before .before .answer in
     let number = c .before .before .number in
     rw (answer .given .1) (refl, number .ensures)
 
 returns-2 : tie.Need-returns-2
-unfolding lookupCode valueIn
+unfolding lookupWords codeIn valueIn
 returns-2 c =
     let enum-told = c .enum-told in
     rw (enum-told .given .1) (refl, refl)
 
 returns-3 : tie.Need-returns-3
-unfolding lookupCode valueIn
+unfolding lookupWords codeIn valueIn
 returns-3 c =
     let answer2 = c .before .before .answer2 in
     let code = c .code in

@@ -24,7 +24,8 @@ checked-at-requires c κs =
     let check-cct = c .before .before .before .before .check-cct in
     let enum-told = c .before .before .enum-told in
     let cct-shape = c .before .cct-shape in
-    let opened = told-passed Format.cct _ (single-pairs Format.cct (now (args .file)) _ refl (single-section .ensures)) (check-cct .ensures) (enum-told .given .1) in (
+    let opened = told-passed Format.cct _ (single-pairs Format.cct (now (args .file)) _ refl (single-section .ensures)) (check-cct .ensures)
+    (enum-told .given .1) in (
       rw (cct-shape .ensures) (inl refl, inr refl),
       bounded Format.cct (now (args .file)) (omega arith) opened 0 (omega arith) (Format.u32 8) (Format.held (Format.u8 12)) refl (omega arith) refl,
     )
@@ -41,7 +42,8 @@ returns c =
     let block : List (List ℕ) → Checked = λ ps. checkedAt (now (args .file)) cctShape ps (args .context) in
     rw (checked-at .ensures, cct-shape .ensures)
     (one-section (now (args .file)) cctShape _ (args .context) ∙ ap block (single-list (now (args .file)) (single-section .ensures))
-    ∙ answers Format.cct (now (args .file)) (single-pairs Format.cct (now (args .file)) _ refl (single-section .ensures)) (check-cct .ensures) Refused block (enum-told .given .1))
+    ∙ answers Format.cct (now (args .file)) (single-pairs Format.cct (now (args .file)) _ refl (single-section .ensures))
+    (check-cct .ensures) Refused block (enum-told .given .1))
 
 returns-2 : tie.Need-returns-2
 unfolding cctBlock

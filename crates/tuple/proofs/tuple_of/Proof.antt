@@ -18,7 +18,8 @@ returns c =
     let multiple = c .before .multiple in
     let in-section = c .before .before .in-section in
     let if1 = c .if1 in
-    let told = rule-told (now (args .file)) (getD (args .t2) 0 0) (getD (args .t2) 1 0) (args .at) (u16-at .ensures) (multiple .ensures) (in-section .ensures) in
+    let told = rule-told (now (args .file)) (getD (args .t2) 0 0) (getD (args .t2) 1 0) (args .at) (u16-at .ensures) (multiple .ensures)
+    (in-section .ensures) in
     rule-broken (now (args .file)) (getD (args .t2) 0 0) (getD (args .t2) 1 0) (args .at) (sym told ∙ not-true _ (if1 .taken))
 
 add-t10 : tie.Need-add-t10
@@ -30,7 +31,8 @@ add-t10 c =
     let in-section = c .before .before .in-section in
     let if1 = c .if1 in
     let good = c .before .before .before .before .before .good in
-    let told = rule-told (now (args .file)) (getD (args .t2) 0 0) (getD (args .t2) 1 0) (args .at) (u16-at .ensures) (multiple .ensures) (in-section .ensures) in
+    let told = rule-told (now (args .file)) (getD (args .t2) 0 0) (getD (args .t2) 1 0) (args .at) (u16-at .ensures) (multiple .ensures)
+    (in-section .ensures) in
     omega (arith, fits (now (args .file)) (getD (args .t2) 0 0) (getD (args .t2) 1 0) (args .at) pre (sym told ∙ not-false _ (if1 .left)), good)
 
 returns-2 : tie.Need-returns-2
@@ -41,7 +43,8 @@ returns-2 c =
     let multiple = c .before .multiple in
     let in-section = c .before .before .in-section in
     let if1 = c .if1 in
-    let told = rule-told (now (args .file)) (getD (args .t2) 0 0) (getD (args .t2) 1 0) (args .at) (u16-at .ensures) (multiple .ensures) (in-section .ensures) in
+    let told = rule-told (now (args .file)) (getD (args .t2) 0 0) (getD (args .t2) 1 0) (args .at) (u16-at .ensures) (multiple .ensures)
+    (in-section .ensures) in
     rw (u16-at .ensures, add-zero) (rule-kept (now (args .file)) (getD (args .t2) 0 0) (getD (args .t2) 1 0) (args .at) (sym told ∙ not-false _ (if1 .left)))
 
 pub tuple-of-spec : {M : Type 1} → statement M
