@@ -1,12 +1,15 @@
 # run: the contexts of the sample file W. test: the whole gate. lib: the C library. check: the library and the programs that call it, from
-# C and from Rust. bench: its times beside those of the Rust reader. install: header, library and pkg-config file under PREFIX.
-# cases: writes the test files and their expected output anew.
+# C and from Rust. bench: its times beside those of readers in plain C and in Rust; ROWS=word for the rows with that word in their names.
+# install: header, library and pkg-config file under PREFIX. cases: writes the test files and their expected output anew.
 .PHONY: run test lib check bench install cases
 PREFIX ?= /usr/local
 LIB = target/staticlib/libhpcdb.a
 C = gcc -std=c99 -O2 -Wall -Wextra -Wpedantic -Werror -Iinclude
 CARGO = CARGO_TARGET_DIR=$(CURDIR)/target/cargo cargo
 DIFFERENTIAL = tests/differential/Cargo.toml
+# The Rust reader's loops are aligned as the library's are, where they run best.
+BENCH = RUSTFLAGS=-Cllvm-args=-x86-experimental-pref-innermost-loop-alignment=6 CARGO_TARGET_DIR=$(CURDIR)/target/cargo-bench \
+	cargo run --quiet --release --manifest-path tests/bench/Cargo.toml --
 
 run:
 	@rt check listing >/dev/null
@@ -33,11 +36,10 @@ check: lib
 	@cd target/readme && ./read | diff - ../../tests/readme.out
 	@$(CARGO) test --quiet --release --manifest-path $(DIFFERENTIAL)
 	@$(CARGO) run --quiet --release --manifest-path $(DIFFERENTIAL) --bin differential
+	@$(BENCH) --compare
 
-# The reader's loops are aligned as the library's are, where they run best.
-bench: export RUSTFLAGS = -Cllvm-args=-x86-experimental-pref-innermost-loop-alignment=6
 bench: lib
-	@CARGO_TARGET_DIR=$(CURDIR)/target/cargo-bench cargo run --quiet --release --manifest-path $(DIFFERENTIAL) --bin bench
+	@$(BENCH) "$(ROWS)"
 
 install: lib
 	install -d $(DESTDIR)$(PREFIX)/include $(DESTDIR)$(PREFIX)/lib/pkgconfig

@@ -131,6 +131,7 @@ uint32_t hpcdb_profile_lookup(const uint8_t *file, size_t file_length, uint64_t 
                               uint8_t *out, size_t out_length);
 
 /* Many values of one profile, whose block is checked once. `pairs` has context, metric, context, metric, ..; an odd last word is no pair.
+ * They may stand in any order; sorted ones are found fastest.
  * OK: for pair i, answers[2 i] is OK and answers[2 i + 1] the value's bits, or they are ABSENT and 0; words behind the answers are
  * untouched. Any other code: all words are. ROOM, before all else, if there are not two words for each pair; INDEX, ARRAY, ORDER. */
 uint32_t hpcdb_profile_lookup_many(const uint8_t *file, size_t file_length, uint64_t profile, const uint64_t *pairs,

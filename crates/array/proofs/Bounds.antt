@@ -1,19 +1,18 @@
 -- The elements of an array that lies in a section stand in the file, so that their places are u64.
 use Prim.Native.Nat.{ℕ, _+_, _-_, _*_, _^_, _≤_, _<_}
 use mathlib.Core.List.{List}
-use mathlib.Core.Path.{_≡_, refl}
+use mathlib.Core.Path.{_≡_}
 use native.Mathlib.Nat.{mul-le-mul-right, suc-mul}
 use native.Mathlib.Numerals.{add-one}
 use native.Mathlib.Omega.{arith}
 use borrow.Author.Tests.{lt-ltb, le-ltb}
-use lib.Dec.{ltb}
 use lib.ListN.{length}
 use Rattle.refusal.specs.declared.Refusal.the-variants as No
 use Rattle.open.specs.Format.{Field, u64, Number, array, Format, sectionAt}
-use Rattle.open.specs.Opening.{pairs, placeIn, field, numberAt}
+use Rattle.open.specs.Opening.{placeIn}
 use Rattle.open.specs.Kept.{Sections}
 use Rattle.open.proofs.Keeps.{opens-iff}
-use Rattle.open.proofs.Inside.{array-inside}
+use Rattle.open.proofs.Inside.{header-inside, array-inside}
 use Rattle.array.specs.declared.Array.{Array}
 use Rattle.array.specs.declared.Element.{Element}
 use Rattle.array.specs.declared.Element.the-variants.{At, Refused}
@@ -39,7 +38,11 @@ module _ (a : Array) (i : ℕ) where
   unfolding elementAt elementIf
   not-there h = rw (le-ltb i (a .count) h)
 
--- the array of section k of an opened file
+-- the header of section k of an opened file, and its array
+pub header-in : (f : Format) (file : List ℕ) {ps : List (List ℕ)} → Sections f file ps → (k : ℕ) → k < length (f .sections) → 0 < sectionAt f k .end
+    → placeIn ps k + sectionAt f k .end ≤ length file
+header-in f file o k h z = rw (o .same) (header-inside f file (opens-iff f file .0 (o .passed)) k h z)
+
 module _ (f : Format) (file : List ℕ) (l : length file < 2 ^ 64) {ps : List (List ℕ)} (o : Sections f file ps) where
   pub bounded : (k : ℕ) → k < length (f .sections) → (n : Field) (s : Number) → sectionAt f k .content ≡ array n s → 0 < sectionAt f k .end
       → {a : Array} → a ≡ arrayOf file (placeIn ps k) n s → Bounded a

@@ -1,5 +1,7 @@
 // Arrays in a file: elements by position, links by place.
 ghost use mathlib.Core.Path.{_≡_};
+ghost use Prim.Native.Nat.{_+_, _≤_};
+ghost use lib.ListN.{length};
 ghost use Rattle.array.specs.Element.{elementAt, linked, Bounded};
 ghost use Rattle.array.specs.Stored.{specsArray, infosArray, namesArray};
 use refusal::Refusal;
@@ -43,13 +45,15 @@ pub fn is_element(a: Array, place: u64) -> bool
     (distance % a.stride == 0) & (distance / a.stride < a.count)
 }
 
-// The arrays of section headers at a place: of modules, files and functions;
+// The arrays of section headers that stand in the file: of modules, files and functions;
 pub fn of_specs(file: &[u8], at: u64) -> Array
+    requires { ⌜ at + 14 ≤ length (now file) ⌝ }
     ensures { λ r. ⌜ r ≡ specsArray (now (file .entry)) at ⌝ }
 {
-    let place = le::u64_at(file, at, 0);
-    let count = le::u32_at(file, at, 8) as u64;
-    let spacing = le::u16_at(file, at, 12) as u64;
+    let from = at as usize;
+    let place = le::load_u64(file, from);
+    let count = le::load_u32(file, from + 8) as u64;
+    let spacing = le::load_u16(file, from + 12) as u64;
     Array {
         place,
         count,
@@ -59,11 +63,13 @@ pub fn of_specs(file: &[u8], at: u64) -> Array
 
 // of metrics, profiles, cct entries and traces;
 pub fn of_infos(file: &[u8], at: u64) -> Array
+    requires { ⌜ at + 13 ≤ length (now file) ⌝ }
     ensures { λ r. ⌜ r ≡ infosArray (now (file .entry)) at ⌝ }
 {
-    let place = le::u64_at(file, at, 0);
-    let count = le::u32_at(file, at, 8) as u64;
-    let stride = le::u8_at(file, at, 12) as u64;
+    let from = at as usize;
+    let place = le::load_u64(file, from);
+    let count = le::load_u32(file, from + 8) as u64;
+    let stride = le::load_u8(file, from + 12) as u64;
     Array {
         place,
         count,
@@ -73,11 +79,15 @@ pub fn of_infos(file: &[u8], at: u64) -> Array
 
 // of the names of identifier kinds.
 pub fn of_names(file: &[u8], at: u64) -> Array
+    requires { ⌜ at + 9 ≤ length (now file) ⌝ }
     ensures { λ r. ⌜ r ≡ namesArray (now (file .entry)) at ⌝ }
 {
+    let from = at as usize;
+    let place = le::load_u64(file, from);
+    let count = le::load_u8(file, from + 8) as u64;
     Array {
-        place: le::u64_at(file, at, 0),
-        count: le::u8_at(file, at, 8) as u64,
+        place,
+        count,
         stride: 8,
     }
 }

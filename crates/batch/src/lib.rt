@@ -25,16 +25,20 @@ fn put_answer(answer: Lookup, out: &mut [u64], at: usize)
     }
 }
 
-// The answers to all pairs, in a checked block.
+// The answers to all pairs, in a checked block: each is looked for first where the last one was.
 fn find_all(file: &[u8], h: Shape, b: Block, pairs: &[u64], answers: &mut [u64])
     requires { ⌜ Valid (now file) h b ⌝ }
     requires { ⌜ 2 * pairsIn (now pairs) ≤ length (now answers) ⌝ }
     ensures { λ _. ⌜ now (answers .exit) ≡ answersIn (now (file .entry)) h b (now (pairs .entry)) (now (answers .entry)) ⌝ }
 {
     let n = pairs.len() / 2;
+    let mut index = 0;
+    let mut value = 0;
     let mut k: usize = 0;
     while k < n {
-        let answer = block::find(file, h, b, pairs[2 * k], pairs[2 * k + 1]);
+        let outer = pairs[2 * k];
+        let inner = pairs[2 * k + 1];
+        let answer = block::find_near(file, h, b, outer, inner, &mut index, &mut value);
         put_answer(answer, answers, 2 * k);
         k += 1;
     }

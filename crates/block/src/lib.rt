@@ -2,16 +2,19 @@
 ghost use mathlib.Core.Bool.{true};
 ghost use mathlib.Core.List.{[], _∷_};
 ghost use mathlib.Core.Path.{_≡_};
-ghost use Prim.Native.Nat.{_+_, _*_, _-_, _≤_, _<_};
+ghost use Prim.Native.Nat.{ℕ, _+_, _*_, _-_, _≤_, _<_};
 ghost use lib.ListN.{length};
 ghost use Rattle.le.specs.Number.{number};
 ghost use Rattle.seq.specs.declared.Position.the-variants as Position;
-ghost use Rattle.seq.specs.Sequence.{rises, position, Sorted};
+ghost use Rattle.seq.specs.Sequence.{rises, position, Sorted, Window};
 ghost use Rattle.block.specs.Block.{profileShape, cctShape, blockAt, idAt, wordAt, rangeRule, startOf, endOf, orderRule, blockCheck, indexOf, inPart, lookupIn, IdWidth, Widths, Array, Room, Valid, partAt, SubArray};
 ghost use Rattle.block.specs.OnePass.{partRule};
 use refusal::Check;
 use refusal::Refusal;
 use seq::Position;
+
+// A hint that is past every array.
+const NO_HINT: u64 = 0xffff_ffff_ffff_ffff;
 
 // Bytes of outer and inner ids, the least inner id, and where the file's header ends.
 pub struct Shape {
@@ -140,19 +143,54 @@ pub fn word_at(file: &[u8], at: u64, w: u64, n: u64, k: u64) -> u64
     le::load_u64(file, element(file, at, w, n, k) + w as usize)
 }
 
+// Whether each of the four ids after id k is above the one before it: one branch for the four.
+fn four_rise(file: &[u8], at: u64, w: u64, n: u64, k: u64) -> bool
+    requires { ⌜ Array (now file) at w n ⌝ }
+    requires { ⌜ k + 4 < n ⌝ }
+    ensures { λ r. ⌜ (r ≡ true → (least : ℕ) → rises least 1 (idAt w (now (file .entry)) at) (k + 1) ≡ true → rises least 1 (idAt w (now (file .entry)) at) (k + 5) ≡ true) ⌝ }
+{
+    let before = id_at(file, at, w, n, k);
+    let one = id_at(file, at, w, n, k + 1);
+    let two = id_at(file, at, w, n, k + 2);
+    let three = id_at(file, at, w, n, k + 3);
+    let four = id_at(file, at, w, n, k + 4);
+    ((before < one) & (one < two)) & ((two < three) & (three < four))
+}
+
+// How many of n ids, from the first on, are known to rise, as far as steps of four tell.
+fn rise_by_fours(file: &[u8], at: u64, w: u64, n: u64, least: u64) -> u64
+    requires { ⌜ Array (now file) at w n ⌝ }
+    requires { ⌜ 0 < n ⌝ }
+    requires { ⌜ least ≤ idAt w (now file) at 0 ⌝ }
+    ensures { λ r. ⌜ (0 < r) × (r ≤ n) ⌝ }
+    ensures { λ r. ⌜ rises least 1 (idAt w (now (file .entry)) at) r ≡ true ⌝ }
+{
+    let mut k = 0;
+    while 4 < n - k {
+        if !four_rise(file, at, w, n, k) {
+            return k + 1;
+        }
+        k += 4;
+    }
+    k + 1
+}
+
 // Whether n ids are at least `least` and increase.
 fn rise(file: &[u8], at: u64, w: u64, n: u64, least: u64) -> bool
     requires { ⌜ Array (now file) at w n ⌝ }
     ensures { λ r. ⌜ r ≡ rises least 1 (idAt w (now (file .entry)) at) n ⌝ }
 {
-    let mut low = least;
-    let mut k = 0;
+    if n == 0 {
+        return true;
+    }
+    if id_at(file, at, w, n, 0) < least {
+        return false;
+    }
+    let mut k = rise_by_fours(file, at, w, n, least);
     while k < n {
-        let id = id_at(file, at, w, n, k);
-        if id < low {
+        if id_at(file, at, w, n, k) <= id_at(file, at, w, n, k - 1) {
             return false;
         }
-        low = id + 1;
         k += 1;
     }
     true
@@ -190,14 +228,11 @@ pub fn end_of(file: &[u8], h: Shape, b: Block, i: u64) -> u64
     }
 }
 
-// Whether sub-array i has values, ends within them all, and its ids increase.
-fn part_rule(file: &[u8], h: Shape, b: Block, i: u64) -> bool
+// Whether a sub-array from a start to an end has values, ends within them all, and its ids increase.
+fn part_rule(file: &[u8], h: Shape, b: Block, start: u64, end: u64) -> bool
     requires { ⌜ Room (now file) h b ⌝ }
-    requires { ⌜ i < b .count ⌝ }
-    ensures { λ r. ⌜ r ≡ partRule (now (file .entry)) h b i ⌝ }
+    ensures { λ r. ⌜ ((i : ℕ) → start ≡ startOf (now (file .entry)) h b i → end ≡ endOf (now (file .entry)) h b i → r ≡ partRule (now (file .entry)) h b i) ⌝ }
 {
-    let start = start_of(file, h, b, i);
-    let end = end_of(file, h, b, i);
     if end <= start {
         return false;
     }
@@ -208,7 +243,7 @@ fn part_rule(file: &[u8], h: Shape, b: Block, i: u64) -> bool
     ids_rise(file, at, h.inner, end - start, h.least)
 }
 
-// 11, in one pass.
+// 11, in one pass. Where one sub-array ends, the next starts.
 fn order_rule(file: &[u8], h: Shape, b: Block) -> bool
     requires { ⌜ Room (now file) h b ⌝ }
     ensures { λ r. ⌜ r ≡ orderRule (now (file .entry)) h b ⌝ }
@@ -218,16 +253,19 @@ fn order_rule(file: &[u8], h: Shape, b: Block) -> bool
     }
     let n = b.count;
     let mut low = 0;
+    let mut start = 0;
     let mut i = 0;
     while i < n {
         let id = id_at(file, b.indices, h.outer, n, i);
         if id < low {
             return false;
         }
-        if !part_rule(file, h, b, i) {
+        let end = end_of(file, h, b, i);
+        if !part_rule(file, h, b, start, end) {
             return false;
         }
         low = id + 1;
+        start = end;
         i += 1;
     }
     true
@@ -247,24 +285,30 @@ pub fn check(file: &[u8], h: Shape, one: [u64; 2], other: [u64; 2], b: Block) ->
     refusal::rule(order_rule(file, h, b), Refusal::Order)
 }
 
-// Where a key is among the n ids of an array, by halving.
-fn search(file: &[u8], at: u64, w: u64, n: u64, key: u64) -> Position
+// `half` if an id is below a key, and else 0. The quotient is 1 or 0: no branch decides, since none could be foretold.
+fn skipped(id: u64, key: u64, half: u64) -> u64
+    requires { ⌜ id < 4294967296 ⌝ }
+    requires { ⌜ key < 4294967296 ⌝ }
+    ensures { λ r. ⌜ (id < key → r ≡ half) × (key ≤ id → r ≡ 0) ⌝ }
+{
+    half * ((key + 0xffff_ffff - id) / 0x1_0000_0000)
+}
+
+// Where a key is among n ids: if anywhere, among `count` from a place on, which are halved until one is left.
+fn halve(file: &[u8], at: u64, w: u64, n: u64, key: u64, from: u64, count: u64) -> Position
     requires { ⌜ Array (now file) at w n ⌝ }
     requires { ⌜ Sorted (idAt w (now file) at) n ⌝ }
+    requires { ⌜ key < 4294967296 ⌝ }
+    requires { ⌜ Window (idAt w (now file) at) n key from count ⌝ }
     ensures { λ r. ⌜ r ≡ position (idAt w (now (file .entry)) at) key n ⌝ }
 {
-    let mut low = 0;
-    let mut high = n;
-    while low < high {
-        let middle = low + (high - low) / 2;
-        if id_at(file, at, w, n, middle) < key {
-            low = middle + 1;
-        } else {
-            high = middle;
-        }
-    }
-    if n <= low {
-        return Position::Nowhere;
+    let mut low = from;
+    let mut left = count;
+    while 1 < left {
+        let half = left / 2;
+        let id = id_at(file, at, w, n, low + half - 1);
+        low += skipped(id, key, half);
+        left -= half;
     }
     if id_at(file, at, w, n, low) == key {
         Position::At(low)
@@ -274,26 +318,82 @@ fn search(file: &[u8], at: u64, w: u64, n: u64, key: u64) -> Position
 }
 
 // The same. Each width is a loop of its own, whose stride is a constant.
-fn position(file: &[u8], at: u64, w: u64, n: u64, key: u64) -> Position
+fn narrow(file: &[u8], at: u64, w: u64, n: u64, key: u64, from: u64, count: u64) -> Position
+    requires { ⌜ Array (now file) at w n ⌝ }
+    requires { ⌜ Sorted (idAt w (now file) at) n ⌝ }
+    requires { ⌜ key < 4294967296 ⌝ }
+    requires { ⌜ Window (idAt w (now file) at) n key from count ⌝ }
+    ensures { λ r. ⌜ r ≡ position (idAt w (now (file .entry)) at) key n ⌝ }
+{
+    if w == 2 {
+        return halve(file, at, 2, n, key, from, count);
+    }
+    halve(file, at, 4, n, key, from, count)
+}
+
+// Whether a key is where a hint says.
+fn is_at(file: &[u8], at: u64, w: u64, n: u64, key: u64, hint: u64) -> bool
+    requires { ⌜ Array (now file) at w n ⌝ }
+    ensures { λ r. ⌜ (r ≡ true → (hint < n) × (idAt w (now (file .entry)) at hint ≡ key)) ⌝ }
+{
+    if n <= hint {
+        return false;
+    }
+    id_at(file, at, w, n, hint) == key
+}
+
+// Whether it is, if anywhere, among the eight ids from there on.
+fn is_near(file: &[u8], at: u64, w: u64, n: u64, key: u64, hint: u64) -> bool
+    requires { ⌜ Array (now file) at w n ⌝ }
+    requires { ⌜ Sorted (idAt w (now file) at) n ⌝ }
+    ensures { λ r. ⌜ (r ≡ true → (key < 4294967296) × Window (idAt w (now (file .entry)) at) n key hint 8) ⌝ }
+{
+    if n <= hint {
+        return false;
+    }
+    if n - hint <= 8 {
+        return false;
+    }
+    let first = id_at(file, at, w, n, hint);
+    let last = id_at(file, at, w, n, hint + 8);
+    (first <= key) & (key < last)
+}
+
+// Where a key is among n ids. The hint, where it may be, can be any number, and changes only how long it takes.
+fn search(file: &[u8], at: u64, w: u64, n: u64, key: u64, hint: u64) -> Position
     requires { ⌜ Array (now file) at w n ⌝ }
     requires { ⌜ Sorted (idAt w (now file) at) n ⌝ }
     ensures { λ r. ⌜ r ≡ position (idAt w (now (file .entry)) at) key n ⌝ }
 {
-    if w == 2 {
-        return search(file, at, 2, n, key);
+    if is_at(file, at, w, n, key, hint) {
+        return Position::At(hint);
     }
-    search(file, at, 4, n, key)
+    if is_near(file, at, w, n, key, hint) {
+        return narrow(file, at, w, n, key, hint, 8);
+    }
+    if (n == 0) | (0xffff_ffff < key) {
+        return Position::Nowhere;
+    }
+    narrow(file, at, w, n, key, 0, n)
 }
 
-// Where the index of an outer id is.
-pub fn index_of(file: &[u8], h: Shape, b: Block, outer: u64) -> Position
+// Where the index of an outer id is, with a hint.
+fn index_near(file: &[u8], h: Shape, b: Block, outer: u64, hint: u64) -> Position
     requires { ⌜ Valid (now file) h b ⌝ }
     ensures { λ r. ⌜ r ≡ indexOf (now (file .entry)) h b outer ⌝ }
 {
     if b.count == 0 {
         return Position::Nowhere;
     }
-    position(file, b.indices, h.outer, b.count, outer)
+    search(file, b.indices, h.outer, b.count, outer, hint)
+}
+
+// The same without one.
+pub fn index_of(file: &[u8], h: Shape, b: Block, outer: u64) -> Position
+    requires { ⌜ Valid (now file) h b ⌝ }
+    ensures { λ r. ⌜ r ≡ indexOf (now (file .entry)) h b outer ⌝ }
+{
+    index_near(file, h, b, outer, NO_HINT)
 }
 
 // Sub-array i.
@@ -309,26 +409,50 @@ pub fn part_at(file: &[u8], h: Shape, b: Block, i: u64) -> Part
     Part { place, length }
 }
 
-// What sub-array i holds of an inner id.
-fn find_in(file: &[u8], h: Shape, b: Block, i: u64, inner: u64) -> Lookup
+// What sub-array i holds of an inner id. The hint is set to where it was.
+fn find_in(file: &[u8], h: Shape, b: Block, i: u64, inner: u64, hint: &mut u64) -> Lookup
     requires { ⌜ Valid (now file) h b ⌝ }
     requires { ⌜ i < b .count ⌝ }
     ensures { λ r. ⌜ r ≡ inPart (now (file .entry)) h b inner (Position.At i) ⌝ }
 {
     let part = part_at(file, h, b, i);
-    let Position::At(k) = position(file, part.place, h.inner, part.length, inner) else {
+    let Position::At(k) = search(file, part.place, h.inner, part.length, inner, *hint) else {
         return Lookup::Absent;
     };
+    *hint = k;
     Lookup::Found(word_at(file, part.place, h.inner, part.length, k))
 }
 
-// What a checked block holds of two ids.
+// What a checked block holds of two ids. The hints, where the index and the value may be, can be any numbers; they are set to where
+// those were, for the next question.
+pub fn find_near(
+    file: &[u8],
+    h: Shape,
+    b: Block,
+    outer: u64,
+    inner: u64,
+    index: &mut u64,
+    value: &mut u64,
+) -> Lookup
+    requires { ⌜ Valid (now file) h b ⌝ }
+    ensures { λ r. ⌜ r ≡ lookupIn (now (file .entry)) h b outer inner ⌝ }
+{
+    let Position::At(i) = index_near(file, h, b, outer, *index) else {
+        return Lookup::Absent;
+    };
+    if i != *index {
+        *value = NO_HINT;
+    }
+    *index = i;
+    find_in(file, h, b, i, inner, value)
+}
+
+// The same of one question alone.
 pub fn find(file: &[u8], h: Shape, b: Block, outer: u64, inner: u64) -> Lookup
     requires { ⌜ Valid (now file) h b ⌝ }
     ensures { λ r. ⌜ r ≡ lookupIn (now (file .entry)) h b outer inner ⌝ }
 {
-    let Position::At(i) = index_of(file, h, b, outer) else {
-        return Lookup::Absent;
-    };
-    find_in(file, h, b, i, inner)
+    let mut index = NO_HINT;
+    let mut value = NO_HINT;
+    find_near(file, h, b, outer, inner, &mut index, &mut value)
 }

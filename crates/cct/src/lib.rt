@@ -10,7 +10,7 @@ use refusal::Refusal;
 use seq::Position;
 use total::Totals;
 
-// Of the values of a sub-array, in stored order.
+// Of the values of a sub-array, in stored order. An id is read only for a new least or greatest.
 pub fn part_totals(file: &[u8], h: Shape, p: Part) -> Totals
     requires { ⌜ SubArray (now file) h p ⌝ }
     ensures { λ r. ⌜ r ≡ partTotals (now (file .entry)) h p ⌝ }
@@ -20,13 +20,25 @@ pub fn part_totals(file: &[u8], h: Shape, p: Part) -> Totals
         return Totals::Refused(Refusal::NotFinite);
     }
     let mut t = total::start(block::id_at(file, p.place, h.inner, p.length, 0), first);
+    // the least and the greatest as floats too: only the value compared with them is converted
+    let mut low = f64::from_bits(first);
+    let mut high = low;
     let mut k = 1;
     while k < p.length {
         let bits = block::word_at(file, p.place, h.inner, p.length, k);
         if !float::is_finite(bits) {
             return Totals::Refused(Refusal::NotFinite);
         }
-        t = total::step(t, block::id_at(file, p.place, h.inner, p.length, k), bits);
+        let x = f64::from_bits(bits);
+        if high < x {
+            t = total::raise(t, block::id_at(file, p.place, h.inner, p.length, k), bits);
+            high = x;
+        } else if x < low {
+            t = total::lower(t, block::id_at(file, p.place, h.inner, p.length, k), bits);
+            low = x;
+        } else {
+            t = total::add(t, bits);
+        }
         k += 1;
     }
     total::finish(p.length, t)

@@ -3,6 +3,8 @@ ghost use mathlib.Core.Path.{_≡_};
 ghost use Prim.Native.Nat.{_+_, _*_, _≤_, _<_};
 ghost use lib.ListN.{length, getD};
 ghost use Rattle.le.specs.Number.{number};
+ghost use Rattle.open.specs.Format.{meta};
+ghost use Rattle.open.specs.Kept.{Sections};
 ghost use Rattle.flex.specs.Packing.{packing, bit, place, words};
 ghost use Rattle.context.specs.Context.{extent, ifPresent, contextRule, linkRule, linksRule, pointerCheck, targetsOf, targetsIn, Readable};
 ghost use Rattle.context.specs.Entry.{WordsOf};
@@ -16,6 +18,7 @@ pub const RECORD: usize = 11;
 // What the pointers of contexts may lead to, in words: place and size of the Context section; place, count and stride of the
 // functions, files and modules.
 pub fn targets_of(file: &[u8], sections: [[u64; 2]; 8]) -> [u64; 11]
+    requires { ⌜ Sections meta (now file) sections ⌝ }
     ensures { λ r. ⌜ targetsIn r ≡ targetsOf (now (file .entry)) sections ⌝ }
 {
     let functions = array::of_specs(file, sections[7][0]);

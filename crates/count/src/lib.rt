@@ -1,5 +1,7 @@
 // How many elements a file has.
 ghost use mathlib.Core.Path.{_≡_};
+ghost use Prim.Native.Nat.{_+_, _≤_};
+ghost use lib.ListN.{length};
 ghost use Rattle.open.specs.Format.{profile, cct, trace};
 ghost use Rattle.array.specs.Stored.{infosArray};
 ghost use Rattle.count.specs.Count.{countOf};
@@ -12,9 +14,10 @@ pub enum Count {
 
 // Elements of the array whose section header stands at a place.
 fn elements(file: &[u8], at: u64) -> u64
+    requires { ⌜ at + 13 ≤ length (now file) ⌝ }
     ensures { λ r. ⌜ r ≡ infosArray (now (file .entry)) at .count ⌝ }
 {
-    le::u32_at(file, at, 8) as u64
+    le::load_u32(file, at as usize + 8) as u64
 }
 
 // Profiles of profile.db.

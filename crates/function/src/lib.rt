@@ -2,7 +2,6 @@
 ghost use mathlib.Core.Path.{_≡_};
 ghost use Rattle.open.specs.Format.{meta};
 ghost use Rattle.open.specs.Kept.{Sections};
-ghost use Rattle.array.specs.Element.{Bounded};
 ghost use Rattle.function.specs.Function.{linksKept, nameText, functionOf, functionIn, functionAt, nameBytes, nameWhich};
 use array::Array;
 use array::Element;
@@ -89,7 +88,7 @@ pub fn function_at(file: &[u8], i: u64) -> Function
     ensures { λ r. ⌜ r ≡ functionAt (now (file .entry)) i ⌝ }
 {
     let sections = open::meta_sections(file);
-    let check = open::check_meta(file, sections);
+    let check = open::check_meta(file, &sections);
     match check {
         Check::Passed => function_in(file, sections, i),
         Check::Refused(r) => Function::Refused(r),

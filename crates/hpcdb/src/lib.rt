@@ -33,7 +33,7 @@ pub extern "C" fn hpcdb_meta_open(file: &[u8], out: &mut [u64; 16]) -> u32
     ensures { λ _. ⌜ now (out .exit) ≡ wordsIn (now (out .entry)) (sectionsWords (now (file .entry))) ⌝ }
 {
     let s = open::meta_sections(file);
-    let check = open::check_meta(file, s);
+    let check = open::check_meta(file, &s);
     match check {
         Check::Passed => {
             *out = [

@@ -43,6 +43,11 @@ split (suc m) n s at =
     ap (λ (k : ℕ). 256 ^ m * number n s k) (omega arith) in
     rw suc-add (omega (arith, step (m + n) s at, step m s at, split m n s (at + 1), e, f))
 
+-- where every element is a byte, w of them hold a number below 256 ^ w
+pub number-small : (s : List ℕ) → ((i : ℕ) → getD s i 0 < 256) → (w at : ℕ) → number w s at < 256 ^ w
+number-small s octets zero at = omega (arith, none s at)
+number-small s octets (suc w) at = rw pow-succ' (omega (arith, step w s at, octets at, number-small s octets w (at + 1)))
+
 -- every place past the end reads as the end does
 pub clamped : (n : ℕ) (s : List ℕ) (at i : ℕ) → i ≡ min at (length s) → number n s i ≡ number n s at
 clamped n s at i e =

@@ -1,4 +1,5 @@
 // Little-endian numbers at a place of a file.
+ghost use mathlib.Core.Bool.{true};
 ghost use mathlib.Core.Path.{_≡_};
 ghost use Prim.Native.Nat.{_+_, _^_, _≤_, _<_, min};
 ghost use lib.ListN.{length};
@@ -87,40 +88,63 @@ fn bytewise(file: &[u8], i: usize, w: usize) -> u64
     n
 }
 
+// The same at an offset from any place.
+fn cut(file: &[u8], at: u64, offset: u64, w: usize) -> u64
+    requires { ⌜ w ≤ 8 ⌝ }
+    ensures { λ r. ⌜ r ≡ number w (now (file .entry)) (at + offset) ⌝ }
+    ensures { λ r. ⌜ r < 256 ^ w ⌝ }
+{
+    bytewise(file, place_in(file, at, offset), w)
+}
+
+// Says of a number at a small offset whether the file has all of it; of a larger offset, nothing. With a constant offset, two tests.
+fn inside(file: &[u8], at: u64, offset: u64, w: u64) -> bool
+    requires { ⌜ w ≤ 8 ⌝ }
+    ensures { λ r. ⌜ (r ≡ true → at + offset + w ≤ length (now (file .entry))) ⌝ }
+{
+    let n = file.len() as u64;
+    if 0x1_0000 <= offset {
+        return false;
+    }
+    if n < offset + w {
+        return false;
+    }
+    at <= n - (offset + w)
+}
+
 // Numbers at an offset from any place at all. What is past the end counts as 0.
 pub fn u8_at(file: &[u8], at: u64, offset: u64) -> u8
     ensures { λ r. ⌜ r ≡ number 1 (now (file .entry)) (at + offset) ⌝ }
 {
-    let i = place_in(file, at, offset);
-    if i < file.len() { file[i] } else { 0 }
+    if inside(file, at, offset, 1) {
+        return load_u8(file, (at + offset) as usize);
+    }
+    cut(file, at, offset, 1) as u8
 }
 
 pub fn u16_at(file: &[u8], at: u64, offset: u64) -> u16
     ensures { λ r. ⌜ r ≡ number 2 (now (file .entry)) (at + offset) ⌝ }
 {
-    let i = place_in(file, at, offset);
-    if 2 <= file.len() - i {
-        return load_u16(file, i);
+    if inside(file, at, offset, 2) {
+        return load_u16(file, (at + offset) as usize);
     }
-    bytewise(file, i, 2) as u16
+    cut(file, at, offset, 2) as u16
 }
 
 pub fn u32_at(file: &[u8], at: u64, offset: u64) -> u32
     ensures { λ r. ⌜ r ≡ number 4 (now (file .entry)) (at + offset) ⌝ }
 {
-    let i = place_in(file, at, offset);
-    if 4 <= file.len() - i {
-        return load_u32(file, i);
+    if inside(file, at, offset, 4) {
+        return load_u32(file, (at + offset) as usize);
     }
-    bytewise(file, i, 4) as u32
+    cut(file, at, offset, 4) as u32
 }
 
 pub fn u64_at(file: &[u8], at: u64, offset: u64) -> u64
     ensures { λ r. ⌜ r ≡ number 8 (now (file .entry)) (at + offset) ⌝ }
 {
-    let i = place_in(file, at, offset);
-    if 8 <= file.len() - i {
-        return load_u64(file, i);
+    if inside(file, at, offset, 8) {
+        return load_u64(file, (at + offset) as usize);
     }
-    bytewise(file, i, 8)
+    cut(file, at, offset, 8)
 }

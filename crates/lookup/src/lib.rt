@@ -1,7 +1,8 @@
 // Lookups in profile.db and cct.db.
 ghost use mathlib.Core.List.{[], _∷_};
 ghost use mathlib.Core.Path.{_≡_};
-ghost use lib.ListN.{getD};
+ghost use Prim.Native.Nat.{_+_, _≤_};
+ghost use lib.ListN.{length, getD};
 ghost use Rattle.array.specs.Element.{Bounded};
 ghost use Rattle.array.specs.Stored.{infosArray};
 ghost use Rattle.block.specs.Block.{blockAt, Widths};
@@ -43,6 +44,7 @@ fn checked_block(file: &[u8], h: Shape, one: [u64; 2], other: [u64; 2], at: u64)
 pub fn checked_at(file: &[u8], h: Shape, one: [u64; 2], other: [u64; 2], i: u64) -> Checked
     requires { ⌜ Widths h ⌝ }
     requires { ⌜ Bounded (infosArray (now file) (getD one 0 0)) ⌝ }
+    requires { ⌜ getD one 0 0 + 13 ≤ length (now file) ⌝ }
     ensures { λ r. ⌜ r ≡ checkedAt (now (file .entry)) h (one ∷ other ∷ []) i ⌝ }
 {
     let infos = array::of_infos(file, one[0]);

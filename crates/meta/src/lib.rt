@@ -1,6 +1,6 @@
 // meta.db: title and description, identifier kinds, modules, source files, and the counts of all arrays.
 ghost use mathlib.Core.Path.{_≡_};
-ghost use lib.ListN.{length, getD};
+ghost use lib.ListN.{length};
 ghost use Rattle.refusal.specs.Check.{codeOf};
 ghost use Rattle.open.specs.Format.{meta};
 ghost use Rattle.open.specs.Opening.{opening};
@@ -44,7 +44,7 @@ fn general_text(file: &[u8], offset: u64) -> Text
     ensures { λ r. ⌜ r ≡ generalText (now (file .entry)) offset ⌝ }
 {
     let sections = open::meta_sections(file);
-    let check = open::check_meta(file, sections);
+    let check = open::check_meta(file, &sections);
     match check {
         Check::Passed => string_of(file, sections[0], sections[0][0], offset),
         Check::Refused(r) => Text::Refused(r),
@@ -67,7 +67,7 @@ pub fn kind_at(file: &[u8], kind: u64) -> Text
     ensures { λ r. ⌜ r ≡ kindAt (now (file .entry)) kind ⌝ }
 {
     let sections = open::meta_sections(file);
-    let check = open::check_meta(file, sections);
+    let check = open::check_meta(file, &sections);
     match check {
         Check::Passed => {
             let names = array::of_names(file, sections[1][0]);
@@ -81,7 +81,7 @@ pub fn module_at(file: &[u8], i: u64) -> Text
     ensures { λ r. ⌜ r ≡ moduleAt (now (file .entry)) i ⌝ }
 {
     let sections = open::meta_sections(file);
-    let check = open::check_meta(file, sections);
+    let check = open::check_meta(file, &sections);
     match check {
         Check::Passed => {
             let modules = array::of_specs(file, sections[5][0]);
@@ -119,7 +119,7 @@ pub fn source_file(file: &[u8], i: u64) -> SourceFile
     ensures { λ r. ⌜ r ≡ sourceAt (now (file .entry)) i ⌝ }
 {
     let sections = open::meta_sections(file);
-    let check = open::check_meta(file, sections);
+    let check = open::check_meta(file, &sections);
     match check {
         Check::Passed => {
             let files = array::of_specs(file, sections[6][0]);
@@ -135,7 +135,7 @@ pub fn counts(file: &[u8], refusal: &mut u64) -> [u64; 5]
     ensures { λ _. ⌜ now (refusal .exit) ≡ codeOf (opening meta (now (file .entry))) ⌝ }
 {
     let sections = open::meta_sections(file);
-    let check = open::check_meta(file, sections);
+    let check = open::check_meta(file, &sections);
     *refusal = refusal::code(check);
     match check {
         Check::Passed => [

@@ -1,6 +1,5 @@
 // meta.db: metrics, their scopes, and the scopes' summaries.
 ghost use mathlib.Core.Path.{_≡_};
-ghost use lib.ListN.{getD};
 ghost use Rattle.open.specs.Format.{meta};
 ghost use Rattle.open.specs.Kept.{Sections};
 ghost use Rattle.text.specs.String.{textBytes, textCode};
@@ -75,9 +74,9 @@ fn nested_at(file: &[u8], section: [u64; 2], outer: Array, i: u64, stride: u64) 
     }
 }
 
-fn metric_nested(file: &[u8], sections: [[u64; 2]; 8], m: u64) -> Nested
-    requires { ⌜ Sections meta (now file) sections ⌝ }
-    ensures { λ r. ⌜ r ≡ metricNested (now (file .entry)) sections m ⌝ }
+fn metric_nested(file: &[u8], sections: &[[u64; 2]; 8], m: u64) -> Nested
+    requires { ⌜ Sections meta (now file) (now sections) ⌝ }
+    ensures { λ r. ⌜ r ≡ metricNested (now (file .entry)) (now (sections .entry)) m ⌝ }
     ensures { λ r. ⌜ BoundedIn r ⌝ }
 {
     let at = sections[2][0];
@@ -86,9 +85,9 @@ fn metric_nested(file: &[u8], sections: [[u64; 2]; 8], m: u64) -> Nested
     nested_at(file, sections[2], metrics, m, stride)
 }
 
-fn scope_nested(file: &[u8], sections: [[u64; 2]; 8], m: u64, s: u64) -> Nested
-    requires { ⌜ Sections meta (now file) sections ⌝ }
-    ensures { λ r. ⌜ r ≡ scopeNested (now (file .entry)) sections m s ⌝ }
+fn scope_nested(file: &[u8], sections: &[[u64; 2]; 8], m: u64, s: u64) -> Nested
+    requires { ⌜ Sections meta (now file) (now sections) ⌝ }
+    ensures { λ r. ⌜ r ≡ scopeNested (now (file .entry)) (now (sections .entry)) m s ⌝ }
     ensures { λ r. ⌜ BoundedIn r ⌝ }
 {
     let metric = metric_nested(file, sections, m);
@@ -188,9 +187,9 @@ pub fn metric_at(file: &[u8], m: u64) -> Metric
     ensures { λ r. ⌜ r ≡ metricAt (now (file .entry)) m ⌝ }
 {
     let sections = open::meta_sections(file);
-    let check = open::check_meta(file, sections);
+    let check = open::check_meta(file, &sections);
     match check {
-        Check::Passed => metric_of(file, sections[2], metric_nested(file, sections, m)),
+        Check::Passed => metric_of(file, sections[2], metric_nested(file, &sections, m)),
         Check::Refused(r) => Metric::Refused(r),
     }
 }
@@ -199,9 +198,9 @@ pub fn scope_at(file: &[u8], m: u64, s: u64) -> Scope
     ensures { λ r. ⌜ r ≡ scopeAt (now (file .entry)) m s ⌝ }
 {
     let sections = open::meta_sections(file);
-    let check = open::check_meta(file, sections);
+    let check = open::check_meta(file, &sections);
     match check {
-        Check::Passed => scope_of(file, sections[2], scope_nested(file, sections, m, s)),
+        Check::Passed => scope_of(file, sections[2], scope_nested(file, &sections, m, s)),
         Check::Refused(r) => Scope::Refused(r),
     }
 }
@@ -210,9 +209,9 @@ pub fn summary_at(file: &[u8], m: u64, s: u64, k: u64) -> Summary
     ensures { λ r. ⌜ r ≡ summaryAt (now (file .entry)) m s k ⌝ }
 {
     let sections = open::meta_sections(file);
-    let check = open::check_meta(file, sections);
+    let check = open::check_meta(file, &sections);
     match check {
-        Check::Passed => summary_of(file, sections[2], scope_nested(file, sections, m, s), k),
+        Check::Passed => summary_of(file, sections[2], scope_nested(file, &sections, m, s), k),
         Check::Refused(r) => Summary::Refused(r),
     }
 }

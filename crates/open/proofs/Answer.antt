@@ -1,16 +1,22 @@
 -- The parts of an answer: one pair, headers with nothing to check, and what an entry point hands back.
-use Prim.Native.Nat.{ℕ, zero, suc, _+_}
+use Prim.Native.Nat.{ℕ, zero, suc, _+_, _≤_, _<_}
+use mathlib.Core.Bool.{Bool, true, false}
 use mathlib.Core.List.{List, [], _∷_}
 use mathlib.Core.Path.{_≡_, refl, sym, ap, _∙_}
-use native.Mathlib.Nat.{add-zero}
-use lib.ListN.{getD}
+use native.Mathlib.Decide.{decLe}
+use native.Mathlib.Omega.{arith}
+use borrow.Author.Tests.{le-leb, lt-leb}
+use lib.Dec.{leb}
+use lib.ListN.{length, getD}
 use Rattle.le.specs.Number.{number}
 use Rattle.refusal.specs.declared.Refusal.{Refusal}
+use Rattle.refusal.specs.declared.Refusal.the-variants as No
 use Rattle.refusal.specs.declared.Check.{Check}
 use Rattle.refusal.specs.declared.Check.the-variants.{Passed, Refused}
-use Rattle.refusal.specs.Check.{rule, first, codeOf, ifPassed}
-use Rattle.open.specs.Format.{Format, Section, section, nothing, profile}
-use Rattle.open.specs.Opening.{placeFor, pairAt, pairsFrom, pairs, headerRule, headerCheck, strideRules, contentRule, openingWith, opening, blank, opened}
+use Rattle.refusal.specs.Check.{either, rule, first, codeOf, ifPassed}
+use Rattle.refusal.proofs.Checks.{not-both}
+use Rattle.open.specs.Format.{Format, section, nothing, profile, cct}
+use Rattle.open.specs.Opening.{placeFor, pairAt, pairsFrom, pairs, headerRule, headerCheck, strideRules, contentRule, frontRules, openingWith, opening, blank, pairsRead, opened}
 use Rattle.open.specs.Kept.{Sections}
 
 place-some : (size pointer : ℕ) → (size ≡ 0 → ⊥) → placeFor size pointer ≡ pointer
@@ -22,50 +28,78 @@ place-none : (size pointer : ℕ) → size ≡ 0 → placeFor size pointer ≡ 0
 unfolding placeFor
 place-none size pointer e = rw e
 
-module _ (file : List ℕ) (entry size : ℕ) (s : size ≡ number 8 file (entry + 0)) where
-  stands-here : size ≡ number 8 file entry
-  stands-here = s ∙ ap (number 8 file) (add-zero entry)
-
+module _ (file : List ℕ) (entry size : ℕ) (s : size ≡ number 8 file entry) where
   pub pair-none : size ≡ 0 → 0 ∷ size ∷ [] ≡ pairAt file entry
   unfolding pairAt
-  pair-none z = rw (← stands-here, place-none size (number 8 file (entry + 8)) z)
+  pair-none z = rw (← s, place-none size (number 8 file (entry + 8)) z)
 
   pub pair-some : (place : ℕ) → (size ≡ 0 → ⊥) → place ≡ number 8 file (entry + 8) → place ∷ size ∷ [] ≡ pairAt file entry
   unfolding pairAt
-  pair-some place n p = rw (← stands-here, place-some size (number 8 file (entry + 8)) n, p)
+  pair-some place n p = rw (← s, place-some size (number 8 file (entry + 8)) n, p)
 
--- the one section of cct.db and of trace.db
-module _ (f : Format) (file : List ℕ) (s : Section) (one : f .sections ≡ s ∷ []) {ps : List (List ℕ)} (e : ps ≡ pairAt file 16 ∷ []) where
-  pub single-pairs : ps ≡ pairs f file
-  unfolding pairs pairsFrom
-  single-pairs = rw (one, e)
+-- what is read of a file that has its header, or has not
+module _ (f : Format) (file : List ℕ) where
+  pub read-all : f .header ≤ length file → pairs f file ≡ pairsRead f file
+  unfolding pairsRead either
+  read-all h = rw (le-leb _ _ h)
 
-pub single-list : (file : List ℕ) {ps : List (List ℕ)} → ps ≡ pairAt file 16 ∷ [] → (getD ps 0 [] ∷ []) ≡ ps
-single-list file e = rw e
+  pub read-none : length file < f .header → blank (pairs f file) ≡ pairsRead f file
+  unfolding pairsRead either
+  read-none h = rw (lt-leb _ _ h)
 
--- the two of profile.db
-pub two-pairs : (file : List ℕ) {ps : List (List ℕ)} → ps ≡ pairs profile file → (getD ps 0 [] ∷ getD ps 1 [] ∷ []) ≡ ps
-unfolding pairs pairsFrom
-two-pairs file e = rw e
+  short-refused : length file < f .header → (ps : List (List ℕ)) → openingWith f file ps ≡ Refused No.Short
+  unfolding openingWith frontRules rule first
+  short-refused h ps =
+      let l : length file < f .header + 8 = omega arith in
+      rw (lt-leb (f .header + 8) (length file) l)
+
+-- one section, or two, are read, whatever they are
+pub single-list : (file : List ℕ) {ps : List (List ℕ)} → ps ≡ pairsRead cct file → (getD ps 0 [] ∷ []) ≡ ps
+unfolding pairsRead pairs pairsFrom blank either
+single-list file e = rw e (by (leb 32 (length file)))
+  where
+    by : (b : Bool) → (getD (either b (pairs cct file) (blank (pairs cct file))) 0 [] ∷ []) ≡ either b (pairs cct file) (blank (pairs cct file))
+    by true = refl
+    by false = refl
+
+pub two-pairs : (file : List ℕ) {ps : List (List ℕ)} → ps ≡ pairsRead profile file → (getD ps 0 [] ∷ getD ps 1 [] ∷ []) ≡ ps
+unfolding pairsRead pairs pairsFrom blank either
+two-pairs file e = rw e (by (leb 48 (length file)))
+  where
+    read : Bool → List (List ℕ)
+    read b = either b (pairs profile file) (blank (pairs profile file))
+
+    by : (b : Bool) → (getD (read b) 0 [] ∷ getD (read b) 1 [] ∷ []) ≡ read b
+    by true = refl
+    by false = refl
 
 -- a header with neither strides nor an array
 pub no-header : (file : List ℕ) (ps : List (List ℕ)) (k end align : ℕ) → headerCheck file ps k (section end align [] nothing) ≡ Passed
 unfolding headerCheck headerRule strideRules contentRule rule first
 no-header file ps k end align = refl
 
--- what an entry point answers, from the pairs of the header and the check over them
-module _ (f : Format) (file : List ℕ) {ps : List (List ℕ)} {c : Check} (p : ps ≡ pairs f file) (q : c ≡ openingWith f file ps) where
+-- what an entry point answers, from the pairs that were read and the check over them
+module _ (f : Format) (file : List ℕ) {ps : List (List ℕ)} {c : Check} (p : ps ≡ pairsRead f file) (q : c ≡ openingWith f file ps) where
   pub told : c ≡ opening f file
   unfolding opening
-  told = q ∙ ap (openingWith f file) p
+  told = q ∙ elim (decLe (f .header) (length file)) [
+    | yes h ↦ ap (openingWith f file) (p ∙ sym (read-all f file h))
+    | no h ↦ short-refused f file (omega arith) ps ∙ sym (short-refused f file (omega arith) (pairs f file))
+  ]
+
+  same-pairs : c ≡ Passed → ps ≡ pairs f file
+  same-pairs h = elim (decLe (f .header) (length file)) [
+    | yes l ↦ p ∙ sym (read-all f file l)
+    | no l ↦ absurd (not-both (sym h ∙ q ∙ short-refused f file (omega arith) ps))
+  ]
 
   pub told-passed : c ≡ Passed → Sections f file ps
-  told-passed h = record { same = p; passed = sym told ∙ h }
+  told-passed h = record { same = same-pairs h; passed = sym told ∙ h }
 
   pub answers : {A : Type 0} → (refused : Refusal → A) (answer : List (List ℕ) → A) → c ≡ Passed
       → answer ps ≡ ifPassed refused (opening f file) (answer (pairs f file))
   unfolding ifPassed
-  answers refused answer h = rw (← told, h) (ap answer p)
+  answers refused answer h = rw (← told, h) (ap answer (same-pairs h))
 
   pub refuses : {A : Type 0} → (refused : Refusal → A) (answer : A) (r : Refusal) → c ≡ Refused r
       → refused r ≡ ifPassed refused (opening f file) answer

@@ -18,6 +18,12 @@ module _ (f : Format) (file : List ℕ) (o : Opens f file) (k : ℕ) (l : k < le
   pub section-inside : 0 < size → at + size ≤ length file - 8
   section-inside h = o .section k l .section .inside h
 
+  pub header-inside : 0 < sectionAt f k .end → at + sectionAt f k .end ≤ length file
+  header-inside h =
+      let g : sectionAt f k .end ≤ size = o .section k l .section .large in
+      let i : at + size ≤ length file - 8 = section-inside (omega arith) in
+      omega arith
+
   kept : (c : Content) → sectionAt f k .content ≡ c → ContentKept file at (sectionAt f k .end) size c
   kept c e = subst (λ (x : Content). ContentKept file at (sectionAt f k .end) size x) e (o .section k l .content)
 

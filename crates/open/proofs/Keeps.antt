@@ -3,7 +3,7 @@ use Prim.Native.Nat.{ℕ, zero, suc, _+_, _-_, _*_, _%_, _≤_, _<_}
 use mathlib.Core.Bool.{Bool, true, false, _&&_, _||_, not}
 use mathlib.Core.List.{List, [], _∷_}
 use mathlib.Core.Logic.{_↔_}
-use mathlib.Core.Path.{_≡_, refl, sym, ap, _∙_}
+use mathlib.Core.Path.{_≡_, refl}
 use native.Mathlib.Nat.{add-zero, zero-add, not-suc-le-zero, le-of-suc-le-suc}
 use native.Mathlib.Omega.{arith}
 use borrow.Author.Tests.{leb-true, le-leb, eqb-true, eq-eqb, ne-eqb, eqb-false}
@@ -47,7 +47,7 @@ lies-iff n from to place size step =
     positive zero h = absurd (h refl)
     positive (suc n) h = omega arith
 
-section-iff : (header last end align place size : ℕ)
+pub section-iff : (header last end align place size : ℕ)
     → (sectionRule header last end align place size ≡ true) ↔ SectionKept header last end align place size
 unfolding sectionRule
 section-iff header last end align place size =
@@ -150,7 +150,7 @@ in-order-iff check k (s ∷ rest) =
     at-each here later zero h = rw (add-zero k) here
     at-each here later (suc j) h = rw (← next j) (later j (le-of-suc-le-suc h))
 
-all-iff : (check : ℕ → Section → Check) (ss : List Section)
+pub all-iff : (check : ℕ → Section → Check) (ss : List Section)
     → (inOrder check 0 ss ≡ Passed) ↔ ((j : ℕ) → j < length ss → check j (getD ss j strings) ≡ Passed)
 all-iff check ss =
     let i = in-order-iff check 0 ss in

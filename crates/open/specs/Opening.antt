@@ -9,7 +9,7 @@ use Rattle.range.specs.Range.{within, multiple}
 use Rattle.refusal.specs.declared.Refusal.the-variants as No
 use Rattle.refusal.specs.declared.Check.{Check}
 use Rattle.refusal.specs.declared.Check.the-variants.{Passed}
-use Rattle.refusal.specs.Check.{rule, first, ifPassed}
+use Rattle.refusal.specs.Check.{either, rule, first, ifPassed}
 use Rattle.layout.specs.Stands.{stands}
 use Rattle.open.specs.Format.{Field, u64, Stride, Number, fixed, held, Content, nothing, array, roots, Section, Format}
 
@@ -116,10 +116,15 @@ openingWith f file ps =
 unfoldable pub opening : Format → List ℕ → Check
 opening f file = openingWith f file (pairs f file)
 
--- what an opened file answers with; after a refusal every word is 0
+-- in place of the pairs every word is 0
 unfoldable pub blank : List (List ℕ) → List (List ℕ)
 blank [] = []
 blank (p ∷ ps) = (0 ∷ 0 ∷ []) ∷ blank ps
 
+-- what is read before a rule is looked at: a file that ends inside its header has no pairs
+unfoldable pub pairsRead : Format → List ℕ → List (List ℕ)
+pairsRead f file = either (leb (f .header) (length file)) (pairs f file) (blank (pairs f file))
+
+-- what an opened file answers with
 unfoldable pub opened : Format → List ℕ → List (List ℕ)
 opened f file = ifPassed (λ r. blank (pairs f file)) (opening f file) (pairs f file)

@@ -16,6 +16,12 @@ both-right : (a b : Bool) → (a && b) ≡ true → b ≡ true
 both-right true b h = h
 both-right false b h = absurd (true≢false (sym h))
 
+pub all-four : (a b c d : Bool) → ((a && b) && (c && d)) ≡ true → (a ≡ true) × (b ≡ true) × (c ≡ true) × (d ≡ true)
+all-four a b c d e =
+    let low = both-left (a && b) (c && d) e in
+    let high = both-right (a && b) (c && d) e in
+    (both-left a b low, both-right a b low, both-left c d high, both-right c d high)
+
 pub and-false : (a : Bool) → (a && false) ≡ false
 and-false true = refl
 and-false false = refl

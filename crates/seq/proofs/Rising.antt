@@ -1,15 +1,15 @@
 -- The loop that tests whether a sequence rises; in one that does, any two are a gap apart, and the other way round.
-use Prim.Native.Nat.{ℕ, zero, suc, _+_, _≤_, _<_}
-use mathlib.Core.Bool.{Bool, true, false}
+use Prim.Native.Nat.{ℕ, zero, suc, _+_, _-_, _≤_, _<_}
+use mathlib.Core.Bool.{Bool, true, false, _&&_}
 use mathlib.Core.Logic.{_⊎_, inl, inr}
-use mathlib.Core.Path.{_≡_, refl, sym, ap, _∙_}
+use mathlib.Core.Path.{_≡_, refl, sym}
 use native.Mathlib.Nat.{eq-or-lt-of-le, le-of-suc-le-suc, not-suc-le-zero}
 use native.Mathlib.Numerals.{add-one}
 use native.Mathlib.Omega.{arith}
 use borrow.Author.Tests.{le-leb, lt-leb, leb-true}
 use lib.Dec.{leb}
-use Rattle.seq.specs.Sequence.{every, floor, rises, Sorted, NonDecreasing}
-use Rattle.seq.proofs.Every.{every-none, every-more, every-at, every-of, every-not}
+use Rattle.seq.specs.Sequence.{floor, rises, Sorted, NonDecreasing}
+use Rattle.seq.proofs.Every.{all-four, every-none, every-more, every-at, every-of, every-not}
 
 module _ (least gap : ℕ) (f : ℕ → ℕ) where
   abbrev test : ℕ → Bool
@@ -45,11 +45,54 @@ module _ (least gap : ℕ) (f : ℕ → ℕ) where
       at zero l = le-leb (floor least gap f 0) (f 0) (rw floor-first (first l))
       at (suc k) l = le-leb (floor least gap f (suc k)) (f (suc k)) (rw (floor-next k) (next k l))
 
+  pub rises-one : least ≤ f 0 → rises least gap f 1 ≡ true
+  rises-one l = rises-of 1 (λ h. l) (λ k h. absurd (omega arith))
+
+  -- one more, and four more, each a gap above the one before it
+  rises-more : (k m n : ℕ) → m ≡ k + 1 → n ≡ m + 1 → rises least gap f m ≡ true → f k + gap ≤ f m → rises least gap f n ≡ true
+  unfolding rises
+  rises-more k m n e g h l =
+      let low : floor least gap f m ≡ f k + gap = rw (e, add-one) (floor-next k) in
+      rw g (every-more test m h (le-leb (floor least gap f m) (f m) (rw low l)))
+
+  rises-four : (k : ℕ) → rises least gap f (k + 1) ≡ true
+      → f k + gap ≤ f (k + 1) → f (k + 1) + gap ≤ f (k + 2) → f (k + 2) + gap ≤ f (k + 3) → f (k + 3) + gap ≤ f (k + 4)
+      → rises least gap f (k + 5) ≡ true
+  rises-four k h one two three four =
+      let a = rises-more k (k + 1) (k + 2) refl (omega arith) h one in
+      let b = rises-more (k + 1) (k + 2) (k + 3) (omega arith) (omega arith) a two in
+      let c = rises-more (k + 2) (k + 3) (k + 4) (omega arith) (omega arith) b three in
+      rises-more (k + 3) (k + 4) (k + 5) (omega arith) (omega arith) c four
+
+  -- by a test of what was read there
+  pub four-tested : (test : ℕ → ℕ → Bool) → ((a b : ℕ) → test a b ≡ true → a + gap ≤ b) → (k : ℕ) {before one two three four : ℕ}
+      → before ≡ f k → one ≡ f (k + 1) → two ≡ f (k + 2) → three ≡ f (k + 3) → four ≡ f (k + 4)
+      → ((test before one && test one two) && (test two three && test three four)) ≡ true
+      → rises least gap f (k + 1) ≡ true → rises least gap f (k + 5) ≡ true
+  four-tested test says k {before} {one} {two} {three} {four} e0 e1 e2 e3 e4 t h =
+      let so = all-four (test before one) (test one two) (test two three) (test three four) t in
+      rises-four k h
+      (omega (arith, says before one (so .0)))
+      (omega (arith, says one two (so .1)))
+      (omega (arith, says two three (so .2)))
+      (omega (arith, says three four (so .3)))
+
 -- the loop: k passed, all of them right, and the next is to be at least `low`
 pub record Rising (least gap : ℕ) (f : ℕ → ℕ) (n low k : ℕ) : Type 0 where
   pub within : k ≤ n
   pub low-is : low ≡ floor least gap f k
   pub so-far : rises least gap f k ≡ true
+
+-- from where it is known: the last that has passed stands at k, or before k
+pub rising-after : {least gap : ℕ} {f : ℕ → ℕ} {n k : ℕ} → k < n → rises least gap f (k + 1) ≡ true → Rising least gap f n (f k + gap) (k + 1)
+rising-after {least} {gap} {f} {n} {k} l h = record { within = omega arith; low-is = rw add-one (sym (floor-next least gap f k)); so-far = h }
+
+pub rising-before : {least gap : ℕ} {f : ℕ → ℕ} {n k : ℕ} → 0 < k → k ≤ n → rises least gap f k ≡ true
+    → Rising least gap f n (f (k - 1) + gap) k
+rising-before {least} {gap} {f} {n} {k} s l h =
+    let e : k - 1 + 1 ≡ k = omega arith in
+    let r = rising-after {least = least} {gap = gap} {f = f} {n = n} {k = k - 1} (omega arith) (rw e h) in
+    record { within = l; low-is = rw e at (r .low-is); so-far = h }
 
 pub rising-start : (least gap : ℕ) (f : ℕ → ℕ) (n : ℕ) → Rising least gap f n least 0
 unfolding floor

@@ -1,14 +1,15 @@
 -- The search by halving in a sequence that does not fall; in a sorted one it finds the key's position.
-use Prim.Native.Nat.{ℕ, zero, suc, _+_, _-_, _≤_, _<_}
+use Prim.Native.Nat.{ℕ, zero, suc, _+_, _-_, _/_, _≤_, _<_}
 use mathlib.Core.Bool.{Bool, true, false}
 use mathlib.Core.Logic.{_⊎_, inl, inr}
 use mathlib.Core.Path.{_≡_, refl, sym, ap, _∙_}
 use native.Mathlib.Nat.{eq-or-lt-of-le, le-of-suc-le-suc, not-suc-le-zero}
 use native.Mathlib.Numerals.{add-one}
+use native.Mathlib.Decide.{decLe}
 use native.Mathlib.Omega.{arith}
-use borrow.Author.Tests.{leb-true, leb-false, le-leb, lt-leb, eq-eqb, ne-eqb}
+use borrow.Author.Tests.{le-leb, lt-leb, eq-eqb, ne-eqb}
 use lib.Dec.{leb, eqb}
-use Rattle.seq.specs.Sequence.{hereOr, position, lastUpTo, Sorted, NonDecreasing}
+use Rattle.seq.specs.Sequence.{hereOr, position, lastUpTo, Sorted, NonDecreasing, Window}
 use Rattle.seq.specs.declared.Position.{Position}
 use Rattle.seq.specs.declared.Position.the-variants.{At, Nowhere}
 
@@ -62,18 +63,6 @@ position-at f key (suc n) s k l e = last (eq-or-lt-of-le (le-of-suc-le-suc l)) (
     last (inl q) r = rw (eq-eqb (f n) key (ap f (sym q) ∙ e)) (ap At (sym q))
     last (inr m) r = rw (ne-eqb (f n) key (λ q. omega (arith, s k n m (omega arith)))) (r m)
 
--- where the ends have met at something that is not the key, the key is nowhere
-pub bracket-none : (f : ℕ → ℕ) (n key lo hi : ℕ) → Sorted f n → Bracket f n key lo hi → hi ≤ lo → lo < n → (f lo ≡ key → ⊥) → (k : ℕ) → k < n → f k ≡ key → ⊥
-bracket-none f n key lo hi s b m l x k q e = go (leb lo k) refl
-  where
-    from : (lo ≡ k) ⊎ (lo < k) → ⊥
-    from (inl i) = x (ap f i ∙ e)
-    from (inr g) = omega (arith, s lo k g q, b .above lo m l)
-
-    go : (t : Bool) → leb lo k ≡ t → ⊥
-    go true g = from (eq-or-lt-of-le (leb-true lo k g))
-    go false g = omega (arith, b .below k (leb-false lo k g))
-
 -- a position is below the number searched
 pub position-below : (f : ℕ → ℕ) (key n k : ℕ) → position f key n ≡ At k → k < n
 unfolding position hereOr
@@ -115,3 +104,76 @@ last-below f key (suc n) k e = go (leb (f n) key) refl (last-below f key n k)
     go : (t : Bool) → leb (f n) key ≡ t → (lastUpTo f key n ≡ At k → k < n) → k < suc n
     go true h r = let q : At n ≡ At k = rw h at e in let z : n ≡ k = cc in omega arith
     go false h r = omega (arith, r (rw h at e))
+
+-- ---- narrowing down without a choice of sides
+
+pub window-all : (f : ℕ → ℕ) (n key : ℕ) → 0 < n → Window f n key 0 n
+window-all f n key h = record { some = h; fits = omega arith; after = λ k l e. omega arith; before = λ k l e. omega arith }
+
+-- between two of them
+pub window-between : (f : ℕ → ℕ) (n key low left : ℕ) → Sorted f n → 1 ≤ left → low + left < n → f low ≤ key → key < f (low + left)
+    → Window f n key low left
+window-between f n key low left s h l from to = record {
+  some = h;
+  fits = omega arith;
+  after = λ k m e. elim (decLe low k) [
+    | yes x ↦ x
+    | no x ↦ absurd (omega (arith, s k low (omega arith) (omega arith)))
+  ];
+  before = λ k m e. elim (decLe (low + left) k) [
+    | yes x ↦ absurd (not-from k m e x)
+    | no x ↦ omega arith
+  ];
+}
+  where
+    not-from : (k : ℕ) → k < n → f k ≡ key → low + left ≤ k → ⊥
+    not-from k m e x = last (eq-or-lt-of-le x)
+      where
+        last : (low + left ≡ k) ⊎ (low + left < k) → ⊥
+        last (inl y) = let z : f (low + left) ≡ f k = ap f y in omega arith
+        last (inr y) = omega (arith, s (low + left) k y m)
+
+module _ {f : ℕ → ℕ} {n key low left : ℕ} (s : Sorted f n) (w : Window f n key low left) (h : 1 < left) where
+  pub window-step : (half skip : ℕ) → half ≡ left / 2 → (f (low + half - 1) < key → skip ≡ half) → (key ≤ f (low + half - 1) → skip ≡ 0)
+      → Window f n key (low + skip) (left - half)
+  window-step half skip e up down = by (decLe key (f (low + half - 1)))
+    where
+      l : low + left ≤ n
+      l = w .fits
+
+      by : Dec (key ≤ f (low + half - 1)) → Window f n key (low + skip) (left - half)
+      by (yes k) =
+          let z : skip ≡ 0 = down k in
+          record {
+            some = omega arith;
+            fits = omega arith;
+            after = λ j m q. omega (arith, w .after j m q);
+            before = λ j m q. elim (decLe j (low + half - 1)) [
+              | yes x ↦ omega arith
+              | no x ↦ absurd (omega (arith, s (low + half - 1) j (omega arith) m))
+            ];
+          }
+      by (no k) =
+          let z : skip ≡ half = up (omega arith) in
+          record {
+            some = omega arith;
+            fits = omega arith;
+            after = λ j m q. elim (decLe (low + half) j) [
+              | yes x ↦ omega arith
+              | no x ↦ absurd (not-above j m q (omega arith))
+            ];
+            before = λ j m q. omega (arith, w .before j m q);
+          }
+        where
+          not-above : (j : ℕ) → j < n → f j ≡ key → j ≤ low + half - 1 → ⊥
+          not-above j m q x = last (eq-or-lt-of-le x)
+            where
+              last : (j ≡ low + half - 1) ⊎ (j < low + half - 1) → ⊥
+              last (inl y) = let z : f j ≡ f (low + half - 1) = ap f y in omega arith
+              last (inr y) = omega (arith, s j (low + half - 1) y (omega arith))
+
+pub window-end : {f : ℕ → ℕ} {n key low left : ℕ} → Window f n key low left → left ≤ 1 → (f low ≡ key → ⊥)
+    → (j : ℕ) → j < n → f j ≡ key → ⊥
+window-end {f} {n} {key} {low} w h other j l e =
+    let q : j ≡ low = omega (arith, w .after j l e, w .before j l e) in
+    other (sym (ap f q) ∙ e)

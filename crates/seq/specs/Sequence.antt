@@ -1,6 +1,7 @@
 -- Sequences of numbers: f 0, .., f (n - 1).
 use Prim.Native.Nat.{ℕ, zero, suc, _+_, _≤_, _<_}
 use mathlib.Core.Bool.{Bool, true, false, _&&_}
+use mathlib.Core.Path.{_≡_}
 use lib.Dec.{leb, eqb}
 use Rattle.seq.specs.declared.Position.{Position}
 use Rattle.seq.specs.declared.Position.the-variants.{At, Nowhere}
@@ -39,3 +40,10 @@ Sorted f n = (p q : ℕ) → p < q → q < n → f p < f q
 
 abbrev pub NonDecreasing : (ℕ → ℕ) → (n : ℕ) → Type 0
 NonDecreasing f n = (p q : ℕ) → p < q → q < n → f p ≤ f q
+
+-- what a search has narrowed down to: where a key is, if anywhere, is among the `left` from `low` on
+pub record Window (f : ℕ → ℕ) (n key low left : ℕ) : Type 0 where
+  pub some : 1 ≤ left
+  pub fits : low + left ≤ n
+  pub after : (k : ℕ) → k < n → f k ≡ key → low ≤ k
+  pub before : (k : ℕ) → k < n → f k ≡ key → k < low + left

@@ -1,22 +1,33 @@
--- The search for a byte, one at a time, how many bytes a section has from a place on, and parts that reach past the end.
+-- The search for a byte, one at a time and in groups, how many bytes a section has from a place on, and parts that reach past the end.
 use Prim.Native.Nat.{ℕ, zero, suc, _+_, _-_, _≤_, _<_, min}
-use mathlib.Core.Bool.{Bool, true, false}
+use mathlib.Core.Bool.{Bool, true, false, not, _&&_}
 use mathlib.Core.List.{List, [], _∷_}
 use mathlib.Core.Path.{_≡_, refl, sym, ap, _∙_}
-use native.Mathlib.Nat.{add-zero, not-suc-le-zero, le-of-suc-le-suc}
 use native.Mathlib.Numerals.{add-one}
 use native.Mathlib.Decide.{decLe}
 use native.Mathlib.Omega.{arith}
 use borrow.Author.Tests.{le-leb, lt-leb, lt-ltb, le-ltb, eq-eqb, ne-eqb}
-use lib.Dec.{leb, ltb, eqb}
+use lib.Dec.{leb, eqb}
 use lib.ListN.{length, getD, take, drop, length-take, length-drop, drop-of-length-le}
-use lib.Seq.{drop-cons, take-all, take-nil}
+use lib.Seq.{drop-cons, drop-drop, take-all, take-nil}
 use Rattle.refusal.specs.declared.Refusal.the-variants as No
 use Rattle.text.specs.declared.Text.{Text}
 use Rattle.text.specs.declared.Text.the-variants.{At, Refused}
 use Rattle.text.specs.String.{until, unlessHere, untilNul, bytesIf, bytesFrom, textIf, textOf, stringAt}
 
 -- ---- the search
+
+-- past bytes of which none is the stop
+farther : (stop n : ℕ) (s : List ℕ) → n ≤ until stop s → until stop s ≡ n + until stop (drop n s)
+unfolding until unlessHere
+farther stop zero s h = omega arith
+farther stop (suc n) [] h = absurd (omega arith)
+farther stop (suc n) (b ∷ s) h = go (eqb b stop) (farther stop n s) h
+  where
+    go : (t : Bool) → (n ≤ until stop s → until stop s ≡ n + until stop (drop n s)) → suc n ≤ unlessHere t (until stop s)
+        → unlessHere t (until stop s) ≡ suc n + until stop (drop n s)
+    go true next h = absurd (omega arith)
+    go false next h = omega (arith, next (omega arith))
 
 module _ (stop : ℕ) (bytes : List ℕ) (i : ℕ) where
   pub found-here : i < length bytes → getD bytes i 0 ≡ stop → until stop (drop i bytes) ≡ 0
@@ -30,6 +41,31 @@ module _ (stop : ℕ) (bytes : List ℕ) (i : ℕ) where
   pub found-nowhere : length bytes ≤ i → until stop (drop i bytes) ≡ 0
   unfolding until
   found-nowhere h = rw (drop-of-length-le bytes h)
+
+  pub found-after : (n : ℕ) → n ≤ until stop (drop i bytes) → until stop (drop i bytes) ≡ n + until stop (drop (i + n) bytes)
+  found-after n h = rw (← drop-drop n i bytes) (farther stop n (drop i bytes) h)
+
+  -- the test of one byte
+  pub none-of-one : i < length bytes → not (eqb (getD bytes i 0) stop) ≡ leb 1 (until stop (drop i bytes))
+  unfolding until unlessHere
+  none-of-one h = rw (drop-cons bytes i 0 h) (go (eqb (getD bytes i 0) stop) (until stop (drop (suc i) bytes)))
+    where
+      go : (here : Bool) (rest : ℕ) → not here ≡ leb 1 (unlessHere here rest)
+      go true rest = refl
+      go false rest = sym (le-leb 1 (suc rest) (omega arith))
+
+-- the test of one byte after n others
+pub none-of-more : (stop : ℕ) (bytes : List ℕ) (i n : ℕ) → i + n < length bytes
+    → leb n (until stop (drop i bytes)) && not (eqb (getD bytes (i + n) 0) stop) ≡ leb (n + 1) (until stop (drop i bytes))
+none-of-more stop bytes i n h =
+    elim (decLe n (until stop (drop i bytes))) [
+      | yes l ↦ rw (le-leb n (until stop (drop i bytes)) l, none-of-one stop bytes (i + n) h, found-after stop bytes i n l) (leb-add n (until stop (drop (i + n) bytes)))
+      | no l ↦ rw (lt-leb n (until stop (drop i bytes)) (omega arith)) (sym (lt-leb (n + 1) (until stop (drop i bytes)) (omega arith)))
+    ]
+  where
+    leb-add : (n k : ℕ) → leb 1 k ≡ leb (n + 1) (n + k)
+    leb-add n zero = sym (lt-leb (n + 1) (n + 0) (omega arith))
+    leb-add n (suc k) = le-leb 1 (suc k) (omega arith) ∙ sym (le-leb (n + 1) (n + suc k) (omega arith))
 
 pub until-most : (stop : ℕ) (bytes : List ℕ) → until stop bytes ≤ length bytes
 unfolding until unlessHere

@@ -1,5 +1,7 @@
 // Strings in a section of a file.
+ghost use Prim.Native.Nat.{_+_, _≤_};
 ghost use mathlib.Core.Path.{_≡_};
+ghost use lib.Dec.{leb};
 ghost use lib.ListN.{length, take, drop};
 ghost use Rattle.text.specs.String.{until, bytesFrom, stringAt, textCode, textBytes};
 use refusal::Refusal;
@@ -10,11 +12,38 @@ pub enum Text {
     Refused(refusal::Refusal),
 }
 
+// Whether none of the eight bytes from i on is `stop`. By `&`, so that one vector comparison serves.
+fn none_of_eight(stop: u8, bytes: &[u8], i: usize) -> bool
+    requires { ⌜ i + 8 ≤ length (now bytes) ⌝ }
+    ensures { λ r. ⌜ r ≡ leb 8 (until stop (drop i (now (bytes .entry)))) ⌝ }
+{
+    (bytes[i] != stop)
+        & (bytes[i + 1] != stop)
+        & (bytes[i + 2] != stop)
+        & (bytes[i + 3] != stop)
+        & (bytes[i + 4] != stop)
+        & (bytes[i + 5] != stop)
+        & (bytes[i + 6] != stop)
+        & (bytes[i + 7] != stop)
+}
+
+// A place before which no byte is `stop`, as far as groups of eight tell.
+fn skip(stop: u8, bytes: &[u8]) -> usize
+    ensures { λ r. ⌜ r ≤ length (now (bytes .entry)) ⌝ }
+    ensures { λ r. ⌜ r + until stop (drop r (now (bytes .entry))) ≡ until stop (now (bytes .entry)) ⌝ }
+{
+    let mut i = 0;
+    while 8 <= bytes.len() - i && none_of_eight(stop, bytes, i) {
+        i += 8;
+    }
+    i
+}
+
 // How many bytes stand before the first that is `stop`; all where none is.
 pub fn until(stop: u8, bytes: &[u8]) -> usize
     ensures { λ r. ⌜ r ≡ until stop (now (bytes .entry)) ⌝ }
 {
-    let mut i = 0;
+    let mut i = skip(stop, bytes);
     while i < bytes.len() {
         if bytes[i] == stop {
             return i;

@@ -1,8 +1,9 @@
--- A step keeps what the next one relies on: the smallest and the greatest are finite, and the sum is no NaN.
+-- A step keeps what the next one relies on: the smallest and the greatest are finite and in order, and the sum is no NaN.
 use Prim.Native.Nat.{ℕ}
 use mathlib.Core.Bool.{Bool, true, false}
-use mathlib.Core.Path.{_≡_}
+use mathlib.Core.Path.{_≡_, refl}
 use Rattle.float.specs.Float.{finite, less}
+use Rattle.float.proofs.Order.{less-same}
 use Rattle.float.proofs.Sums.{finite-some, more-some}
 use Rattle.total.specs.declared.Tally.{Tally}
 use Rattle.total.specs.Totals.{startOf, choose, stepOf, Good}
@@ -23,3 +24,25 @@ good-step t id v g h = record {
   high = choose-finite (less (t .greatest) v) v (t .greatest) h (g .high);
   some = more-some v (t .sum) (g .some) h;
 }
+
+pub good-next : (t : Tally) (id v : ℕ) → Good t → finite v ≡ true → {r : Tally} → r ≡ stepOf t id v → Good r
+good-next t id v g h e = rw e (good-step t id v g h)
+
+-- ---- the smallest is not greater than the greatest
+
+pub ordered-start : (id v : ℕ) → less (startOf id v .greatest) (startOf id v .least) ≡ false
+unfolding startOf
+ordered-start id v = less-same v
+
+choose-ordered : (below above : Bool) (v low high : ℕ) → less v low ≡ below → less high v ≡ above → less high low ≡ false
+    → less (choose above v high) (choose below v low) ≡ false
+unfolding choose
+choose-ordered false false v low high p q h = h
+choose-ordered false true v low high p q h = p
+choose-ordered true false v low high p q h = q
+choose-ordered true true v low high p q h = less-same v
+
+pub ordered-step : (t : Tally) (id v : ℕ) → less (t .greatest) (t .least) ≡ false
+    → less (stepOf t id v .greatest) (stepOf t id v .least) ≡ false
+unfolding stepOf
+ordered-step t id v h = choose-ordered (less v (t .least)) (less (t .greatest) v) v (t .least) (t .greatest) refl refl h

@@ -1,8 +1,10 @@
 // Totals over entries in order, one entry at a time.
 ghost use mathlib.Core.Path.{_≡_};
-ghost use mathlib.Core.Bool.{true};
-ghost use Rattle.float.specs.Float.{finite};
-ghost use Rattle.total.specs.Totals.{choose, startOf, stepOf, finish, Good};
+ghost use mathlib.Core.Bool.{true, false};
+ghost use Prim.Native.Nat.{ℕ};
+ghost use lib.Ieee.{binary64, ofBits, add};
+ghost use Rattle.float.specs.Float.{finite, less};
+ghost use Rattle.total.specs.Totals.{startOf, stepOf, finish, Good};
 
 // Of the entries so far: the first smallest and the first greatest, each by its identifier and bits, and the sum.
 pub struct Tally {
@@ -42,29 +44,65 @@ pub fn start(id: u64, bits: u64) -> Tally
     }
 }
 
-fn choose(better: bool, new: u64, old: u64) -> u64
-    ensures { λ r. ⌜ r ≡ choose better new old ⌝ }
+// The sum with one value more.
+fn plus(t: Tally, bits: u64) -> f64
+    requires { ⌜ finite bits ≡ true ⌝ }
+    ensures { λ r. ⌜ r ≡ add binary64 (t .sum) (ofBits binary64 bits) ⌝ }
 {
-    if better { new } else { old }
+    t.sum + f64::from_bits(bits)
 }
 
-// One entry more.
-pub fn step(t: Tally, id: u64, bits: u64) -> Tally
+// One entry more, a new greatest.
+pub fn raise(t: Tally, id: u64, bits: u64) -> Tally
     requires { ⌜ finite bits ≡ true ⌝ }
     requires { ⌜ Good t ⌝ }
+    requires { ⌜ less (t .greatest) bits ≡ true ⌝ }
+    requires { ⌜ less bits (t .least) ≡ false ⌝ }
     ensures { λ r. ⌜ r ≡ stepOf t id bits ⌝ }
     ensures { λ r. ⌜ Good r ⌝ }
 {
-    let x = f64::from_bits(bits);
-    let below = x < f64::from_bits(t.least);
-    let above = f64::from_bits(t.greatest) < x;
-    let sum = t.sum + x;
     Tally {
-        least_of: choose(below, id, t.least_of),
-        least: choose(below, bits, t.least),
-        greatest_of: choose(above, id, t.greatest_of),
-        greatest: choose(above, bits, t.greatest),
-        sum,
+        least_of: t.least_of,
+        least: t.least,
+        greatest_of: id,
+        greatest: bits,
+        sum: plus(t, bits),
+    }
+}
+
+// One entry more, a new least.
+pub fn lower(t: Tally, id: u64, bits: u64) -> Tally
+    requires { ⌜ finite bits ≡ true ⌝ }
+    requires { ⌜ Good t ⌝ }
+    requires { ⌜ less (t .greatest) bits ≡ false ⌝ }
+    requires { ⌜ less bits (t .least) ≡ true ⌝ }
+    ensures { λ r. ⌜ r ≡ stepOf t id bits ⌝ }
+    ensures { λ r. ⌜ Good r ⌝ }
+{
+    Tally {
+        least_of: id,
+        least: bits,
+        greatest_of: t.greatest_of,
+        greatest: t.greatest,
+        sum: plus(t, bits),
+    }
+}
+
+// One entry more, neither: only the sum grows, whatever its id is.
+pub fn add(t: Tally, bits: u64) -> Tally
+    requires { ⌜ finite bits ≡ true ⌝ }
+    requires { ⌜ Good t ⌝ }
+    requires { ⌜ less (t .greatest) bits ≡ false ⌝ }
+    requires { ⌜ less bits (t .least) ≡ false ⌝ }
+    ensures { λ r. ⌜ ((id : ℕ) → r ≡ stepOf t id bits) ⌝ }
+    ensures { λ r. ⌜ Good r ⌝ }
+{
+    Tally {
+        least_of: t.least_of,
+        least: t.least,
+        greatest_of: t.greatest_of,
+        greatest: t.greatest,
+        sum: plus(t, bits),
     }
 }
 

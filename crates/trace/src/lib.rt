@@ -1,5 +1,6 @@
 // Trace lines of trace.db: validated in one pass, searched by halving.
 ghost use mathlib.Core.List.{[], _∷_};
+ghost use mathlib.Core.Bool.{true};
 ghost use mathlib.Core.Path.{_≡_};
 ghost use Prim.Native.Nat.{_+_, _-_, _*_, _≤_, _<_};
 ghost use lib.Dec.{leb};
@@ -7,7 +8,7 @@ ghost use lib.ListN.{length, getD};
 ghost use Rattle.array.specs.Element.{Bounded};
 ghost use Rattle.array.specs.Stored.{infosArray};
 ghost use Rattle.seq.specs.Sequence.{rises, lastUpTo};
-ghost use Rattle.trace.specs.Trace.{timeAt, contextAt, lineRule, lineOf, lineIn, lineAt, sampleOf, sampleIn, sampleAt, lastIn, lastAt, Samples, Ordered};
+ghost use Rattle.trace.specs.Trace.{timeAt, lineRule, lineOf, lineIn, lineAt, sampleOf, sampleIn, sampleAt, lastIn, lastAt, Samples, Ordered};
 use array::Element;
 use refusal::Check;
 use refusal::Refusal;
@@ -83,6 +84,38 @@ fn follows(time: u64, last: u64, gap: u64) -> bool
     gap <= time - last
 }
 
+// Whether each of the four timestamps after timestamp k is a gap above the one before it: one branch for the four.
+fn four_rise(file: &[u8], place: u64, n: u64, k: u64, gap: u64) -> bool
+    requires { ⌜ Samples (now file) place n ⌝ }
+    requires { ⌜ k + 4 < n ⌝ }
+    ensures { λ r. ⌜ (r ≡ true → rises 0 gap (timeAt (now (file .entry)) place) (k + 1) ≡ true → rises 0 gap (timeAt (now (file .entry)) place) (k + 5) ≡ true) ⌝ }
+{
+    let before = time_at(file, place, n, k);
+    let one = time_at(file, place, n, k + 1);
+    let two = time_at(file, place, n, k + 2);
+    let three = time_at(file, place, n, k + 3);
+    let four = time_at(file, place, n, k + 4);
+    (follows(one, before, gap) & follows(two, one, gap))
+        & (follows(three, two, gap) & follows(four, three, gap))
+}
+
+// Timestamp k is the last that is known to rise: as far as steps of four tell.
+fn rise_by_fours(file: &[u8], place: u64, n: u64, gap: u64) -> u64
+    requires { ⌜ Samples (now file) place n ⌝ }
+    requires { ⌜ 0 < n ⌝ }
+    ensures { λ r. ⌜ r < n ⌝ }
+    ensures { λ r. ⌜ rises 0 gap (timeAt (now (file .entry)) place) (r + 1) ≡ true ⌝ }
+{
+    let mut k = 0;
+    while 4 < n - k {
+        if !four_rise(file, place, n, k, gap) {
+            return k;
+        }
+        k += 4;
+    }
+    k
+}
+
 // 11, of n samples.
 fn times_rise(file: &[u8], place: u64, n: u64, gap: u64) -> bool
     requires { ⌜ Samples (now file) place n ⌝ }
@@ -91,8 +124,9 @@ fn times_rise(file: &[u8], place: u64, n: u64, gap: u64) -> bool
     if n == 0 {
         return true;
     }
-    let mut last = time_at(file, place, n, 0);
-    let mut k = 1;
+    let known = rise_by_fours(file, place, n, gap);
+    let mut last = time_at(file, place, n, known);
+    let mut k = known + 1;
     while k < n {
         let time = time_at(file, place, n, k);
         if !follows(time, last, gap) {
@@ -124,6 +158,7 @@ fn line_of(file: &[u8], section: [u64; 2], profile: u64, start: u64, end: u64) -
 
 fn line_in(file: &[u8], section: [u64; 2], i: u64) -> Line
     requires { ⌜ Bounded (infosArray (now file) (getD section 0 0)) ⌝ }
+    requires { ⌜ getD section 0 0 + 13 ≤ length (now file) ⌝ }
     ensures { λ r. ⌜ r ≡ lineIn (now (file .entry)) (section ∷ []) i ⌝ }
 {
     let headers = array::of_infos(file, section[0]);

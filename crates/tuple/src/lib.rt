@@ -1,7 +1,8 @@
 // Identifier tuples of profile.db.
 ghost use mathlib.Core.List.{[], _∷_};
 ghost use mathlib.Core.Path.{_≡_};
-ghost use lib.ListN.{getD};
+ghost use Prim.Native.Nat.{_+_, _≤_};
+ghost use lib.ListN.{length, getD};
 ghost use Rattle.array.specs.Element.{Bounded};
 ghost use Rattle.array.specs.Stored.{infosArray};
 ghost use Rattle.tuple.specs.Tuple.{tupleOf, tupleIn, tupleAt, identifierOf, identifierIn, identifierAt, Inside};
@@ -48,6 +49,7 @@ fn tuple_of(file: &[u8], section: [u64; 2], at: u64) -> Tuple
 fn tuple_in(file: &[u8], infos: [u64; 2], tuples: [u64; 2], profile: u64) -> Tuple
     requires { ⌜ Bounded (infosArray (now file) (getD infos 0 0)) ⌝ }
     requires { ⌜ Inside (now file) tuples ⌝ }
+    requires { ⌜ getD infos 0 0 + 13 ≤ length (now file) ⌝ }
     ensures { λ r. ⌜ r ≡ tupleIn (now (file .entry)) (infos ∷ tuples ∷ []) profile ⌝ }
 {
     let profiles = array::of_infos(file, infos[0]);

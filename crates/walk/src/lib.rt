@@ -165,7 +165,7 @@ pub fn records(file: &[u8], listing: &mut [u64], table: &mut [u64], records: &mu
     ensures { λ _. ⌜ now (records .exit) ≡ recordsWith (listOf (walkWith (now (file .entry)) (now (listing .entry)) (now (table .entry)))) (now (records .entry)) ⌝ }
 {
     let sections = open::meta_sections(file);
-    let check = open::check_meta(file, sections);
+    let check = open::check_meta(file, &sections);
     match check {
         Check::Passed => walk_in(file, sections, listing, table, records),
         Check::Refused(r) => Walked::Refused(r, 0),

@@ -1,13 +1,21 @@
 -- Field by field.
 use Rattle.open.specs.Opening.{field, numberAt}
 use Rattle.array.specs.Stored.{arrayOf}
+use native.Mathlib.Nat.{add-zero}
 use borrow.Author.Needs.{needs}
 use Rattle.array.proofs.of_names.Statement.{statement}
 use Rattle.array.proofs.of_names.Tie as tie
 
 returns : tie.Need-returns
 unfolding arrayOf field numberAt
-returns c = rw (c .u8-at .ensures, c .before .u64-at .ensures)
+returns c = rw (c .load-u8 .ensures, c .before .load-u64 .ensures, add-zero)
 
 pub of-names-spec : {M : Type 1} → statement M
-of-names-spec = tie.close (tie.spec (λ c κs. search needs) (λ c κs. search needs) (λ c. search needs) returns)
+of-names-spec =
+    tie.close
+    (tie.spec
+    (λ c κs. search needs)
+    (λ c. search needs)
+    (λ c κs. search needs)
+    (λ c. search needs)
+    returns)

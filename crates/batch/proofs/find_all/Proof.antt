@@ -1,57 +1,51 @@
-use borrow.Author.Needs.{needs}
 -- The answers to the pairs passed are written.
 use Rattle.batch.proofs.Filling.{Filling, filling-start, filling-length, filling-more, filling-all}
 use Prim.Native.Nat.{_-_}
 use native.Mathlib.Omega.{arith}
+use borrow.Author.Needs.{needs}
 use denote.Ref.{now}
 use Rattle.batch.proofs.find_all.Statement.{statement}
 use Rattle.batch.proofs.find_all.Tie as tie
 
 abbrev Inv-loop : tie.InvT-loop
-Inv-loop file h b pairs answers₀ n k₀ answers k =
-    Filling file h b pairs answers₀ answers k
+Inv-loop file h b pairs answers₀ n index₀ value₀ k₀ answers index value k = Filling file h b pairs answers₀ answers k
 
 abbrev μ-loop : tie.MeasureT-loop
-μ-loop file h b pairs answers₀ n k₀ answers k = n - k
+μ-loop file h b pairs answers₀ n index₀ value₀ k₀ answers index value k = n - k
 
 loop-holds : tie.Need-loop-holds Inv-loop μ-loop
 loop-holds c =
     let args = c .before .before .before .args in
     filling-start (now (args .file)) (args .h) (args .b) (now (args .pairs)) (now (args .answers))
 
-find-requires : tie.Need-find-requires Inv-loop μ-loop
-find-requires c κs =
-    let pre = c .before .before .before .before .before .before .before .pre in
-    pre .0
+find-near-requires : tie.Need-find-near-requires Inv-loop μ-loop
+find-near-requires c κs = c .before .before .before .before .before .before .before .before .before .pre .0
 
 put-answer-requires : tie.Need-put-answer-requires Inv-loop μ-loop
 put-answer-requires c κs =
-    let pre = c .before .before .before .before .before .before .before .before .before .pre in
-    let loop-test = c .before .before .before .before .loop-test in
-    let loop = c .before .before .before .before .before .loop in
+    let pre = c .before .before .before .before .before .before .before .before .before .before .before .pre in
+    let loop-test = c .before .before .before .before .before .before .loop-test in
+    let loop = c .before .before .before .before .before .before .before .loop in
     omega (arith, pre .1, loop-test .taken, filling-length _ _ _ _ (loop .inv))
 
 loop-again : tie.Need-loop-again Inv-loop μ-loop
 loop-again c =
-    let args = c .before .before .before .before .before .before .before .before .before .before .before .before .args in
-    let loop = c .before .before .before .before .before .before .before .before .loop in
-    let loop-test = c .before .before .before .before .before .before .before .loop-test in
-    let find = c .before .before .before .before .find in
+    let loop = c .before .before .before .before .before .before .before .before .before .before .loop in
+    let loop-test = c .before .before .before .before .before .before .before .before .before .loop-test in
+    let find-near = c .before .before .before .before .find-near in
     let put-answer = c .before .before .put-answer in
-    filling-more (now (args .file)) (args .h) (args .b) (now (args .pairs)) (loop .inv) (loop-test .taken) (find .ensures) (put-answer .ensures)
+    let args = c .before .before .before .before .before .before .before .before .before .before .before .before .before .before .args in
+    filling-more (now (args .file)) (args .h) (args .b) (now (args .pairs)) (loop .inv) (loop-test .taken) (find-near .ensures) (put-answer .ensures)
 
 same-length : tie.Need-same-length Inv-loop μ-loop
 same-length c =
     let args = c .before .before .before .before .before .args in
-    let loop = c .before .loop in
-    filling-length (now (args .file)) (args .h) (args .b) (now (args .pairs)) (loop .inv)
+    filling-length (now (args .file)) (args .h) (args .b) (now (args .pairs)) (c .before .loop .inv)
 
 returns : tie.Need-returns Inv-loop μ-loop
 returns c =
     let args = c .before .before .before .before .before .args in
-    let loop = c .before .loop in
-    let loop-test = c .loop-test in
-    filling-all (now (args .file)) (args .h) (args .b) (now (args .pairs)) (loop .inv) (loop-test .left)
+    filling-all (now (args .file)) (args .h) (args .b) (now (args .pairs)) (c .before .loop .inv) (c .loop-test .left)
 
 pub find-all-spec : {M : Type 1} → statement M
 find-all-spec =
@@ -67,7 +61,7 @@ find-all-spec =
     (λ c. search needs)
     (λ c. search needs)
     (λ c. search needs)
-    find-requires
+    find-near-requires
     (λ c. search needs)
     put-answer-requires
     (λ c. search needs)

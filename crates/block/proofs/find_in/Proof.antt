@@ -1,36 +1,31 @@
 -- By where the id is in the sub-array.
 use Rattle.block.specs.declared.Lookup.the-variants.{Found}
+use Rattle.block.specs.Block.{inPart, valueAt}
 use Rattle.seq.proofs.Search.{position-below}
 use mathlib.Core.Path.{sym, ap, _∙_}
-use Rattle.block.specs.Block.{inPart, valueAt}
 use borrow.Author.Needs.{needs}
 use Rattle.block.proofs.find_in.Statement.{statement}
 use Rattle.block.proofs.find_in.Tie as tie
 
 returns : tie.Need-returns
 unfolding inPart valueAt
-returns c =
-    let part-at = c .before .before .before .part-at in
-    let position = c .before .before .position in
-    let enum-told = c .enum-told in
-    rw (← part-at .ensures .0, ← position .ensures, enum-told .given .1)
+returns c = rw (← c .before .before .before .before .part-at .ensures .0, ← c .before .before .search .ensures, c .enum-told .given .1)
 
 word-at-requires : tie.Need-word-at-requires
 word-at-requires c κs =
-    let part-at = c .before .before .before .before .part-at in
-    let args = c .before .before .before .before .before .before .args in
+    let args = c .before .before .before .before .before .before .before .args in
+    let search = c .before .before .before .search in
+    let part-at = c .before .before .before .before .before .part-at in
     let k = c .before .k in
-    let position = c .before .before .before .position in
-    (part-at .ensures .1 .array, position-below _ (args .inner) (part-at .result .length) (k .given .0 .0) (sym (position .ensures) ∙ k .given .1))
+    (part-at .ensures .1 .array, position-below _ (args .inner) (part-at .result .length) (k .given .0 .0) (sym (search .ensures) ∙ k .given .1))
 
 returns-2 : tie.Need-returns-2
 unfolding inPart valueAt
 returns-2 c =
-    let word-at = c .word-at in
-    let part-at = c .before .before .before .before .before .part-at in
-    let position = c .before .before .before .before .position in
+    let part-at = c .before .before .before .before .before .before .part-at in
+    let search = c .before .before .before .before .search in
     let k = c .before .before .k in
-    ap Found (word-at .ensures) ∙ rw (← part-at .ensures .0, ← position .ensures, k .given .1)
+    ap Found (c .word-at .ensures) ∙ rw (← part-at .ensures .0, ← search .ensures, k .given .1)
 
 pub find-in-spec : {M : Type 1} → statement M
 find-in-spec =

@@ -1,23 +1,24 @@
--- The entries passed are finite and in the tally.
+-- The entries passed are finite and in the tally, whose least and greatest are low and high.
 use borrow.Author.Needs.{needs}
 use Rattle.block.specs.Block.{idAt, wordAt}
-use Rattle.total.proofs.Loop.{Summing, summing-start, summing-more, summing-not, summing-all}
+use Rattle.total.proofs.Loop.{Summing, summing-start, above, not-above, summing-raise, summing-lower, summing-add, summing-not, summing-all}
 use Rattle.float.specs.Float.{finite}
+use Rattle.float.proofs.Sums.{finite-bits}
 use borrow.Author.Tests.{not-true, not-false}
+use mathlib.Core.Logic.{⊎-elim}
 use mathlib.Core.Path.{sym, ap, _∙_}
 use Prim.Native.Nat.{_-_}
 use Rattle.cct.specs.Totals.{partTotals}
 use denote.Ref.{now}
-use native.Mathlib.Omega.{arith}
 use Rattle.cct.proofs.part_totals.Statement.{statement}
 use Rattle.cct.proofs.part_totals.Tie as tie
 
 abbrev Inv-loop : tie.InvT-loop
-Inv-loop file h p first t₀ k₀ t k =
-    Summing (idAt (h .inner) file (p .place)) (wordAt (h .inner) file (p .place)) (p .length) t k
+Inv-loop file h p first t₀ low₀ high₀ k₀ t low high k =
+    Summing (idAt (h .inner) file (p .place)) (wordAt (h .inner) file (p .place)) (p .length) t low high k
 
 abbrev μ-loop : tie.MeasureT-loop
-μ-loop file h p first t₀ k₀ t k = p .length - k
+μ-loop file h p first t₀ low₀ high₀ k₀ t low high k = p .length - k
 
 word-at-requires : tie.Need-word-at-requires Inv-loop μ-loop
 word-at-requires c κs =
@@ -47,18 +48,25 @@ start-requires c κs =
     let if1 = c .before .if1 in
     sym (is-finite .ensures) ∙ not-false (is-finite .result) (if1 .left)
 
+float-from-bits-low : tie.Need-float-from-bits-low Inv-loop μ-loop
+float-from-bits-low c =
+    let word-at = c .before .before .before .before .word-at in
+    let is-finite = c .before .before .before .is-finite in
+    let if1 = c .before .before .if1 in
+    finite-bits (word-at .result) (sym (is-finite .ensures) ∙ not-false (is-finite .result) (if1 .left))
+
 loop-holds : tie.Need-loop-holds Inv-loop μ-loop
 loop-holds c =
     let start = c .start in
-    let id-at = c .before .id-at in
-    let word-at = c .before .before .before .before .word-at in
     let args = c .before .before .before .before .before .before .args in
     let pre = c .before .before .before .before .before .before .pre in
+    let id-at = c .before .id-at in
+    let word-at = c .before .before .before .before .word-at in
     let is-finite = c .before .before .before .is-finite in
     let if1 = c .before .before .if1 in
-    rw (start .ensures .0, id-at .ensures .0, word-at .ensures)
+    rw (start .ensures .0)
     (summing-start (idAt (args .h .inner) (now (args .file)) (args .p .place)) (wordAt (args .h .inner) (now (args .file)) (args .p .place))
-    (args .p .length) (pre .some) (sym (ap finite (word-at .ensures)) ∙ sym (is-finite .ensures) ∙ not-false (is-finite .result) (if1 .left)))
+    (args .p .length) (pre .some) (id-at .ensures .0) (word-at .ensures) (sym (is-finite .ensures) ∙ not-false (is-finite .result) (if1 .left)))
 
 word-at-requires-2 : tie.Need-word-at-requires-2 Inv-loop μ-loop
 word-at-requires-2 c κs =
@@ -77,34 +85,73 @@ returns-2 c =
     let if3 = c .if3 in
     sym
     (summing-not (idAt (args .h .inner) (now (args .file)) (args .p .place)) (wordAt (args .h .inner) (now (args .file)) (args .p .place))
-    (args .p .length) (loop .k) (if2 .taken) (sym (ap finite (word-at2 .ensures)) ∙ sym (is-finite2 .ensures) ∙ not-true (is-finite2 .result) (if3 .taken)))
+    (args .p .length) (loop .k) (if2 .taken)
+    (sym (ap finite (word-at2 .ensures)) ∙ sym (is-finite2 .ensures) ∙ not-true (is-finite2 .result) (if3 .taken)))
+
+float-from-bits-x : tie.Need-float-from-bits-x Inv-loop μ-loop
+float-from-bits-x c =
+    let word-at2 = c .before .before .word-at2 in
+    let is-finite2 = c .before .is-finite2 in
+    let if3 = c .if3 in
+    finite-bits (word-at2 .result) (sym (is-finite2 .ensures) ∙ not-false (is-finite2 .result) (if3 .left))
 
 id-at-requires-2 : tie.Need-id-at-requires-2 Inv-loop μ-loop
 id-at-requires-2 c κs =
-    let pre = c .before .before .before .before .before .before .before .before .before .before .before .before .pre in
-    let if2 = c .before .before .before .if2 in
+    let pre = c .before .before .before .before .before .before .before .before .before .before .before .before .before .pre in
+    let if2 = c .before .before .before .before .if2 in
     (pre .array, if2 .taken)
 
-step-requires : tie.Need-step-requires Inv-loop μ-loop
-step-requires c κs =
-    let is-finite2 = c .before .before .is-finite2 in
-    let if3 = c .before .if3 in
-    let loop = c .before .before .before .before .before .before .loop in
-    (sym (is-finite2 .ensures) ∙ not-false (is-finite2 .result) (if3 .left), loop .inv .good)
+raise-requires : tie.Need-raise-requires Inv-loop μ-loop
+raise-requires c κs =
+    let is-finite2 = c .before .before .before .is-finite2 in
+    let if3 = c .before .before .if3 in
+    let loop = c .before .before .before .before .before .before .before .loop in
+    let word-at2 = c .before .before .before .before .word-at2 in
+    let if4 = c .before .if4 in
+    let fin = sym (is-finite2 .ensures) ∙ not-false (is-finite2 .result) (if3 .left) in
+    (fin, (loop .inv .good, above (loop .inv) (word-at2 .result) fin (if4 .taken)))
+
+id-at-requires-3 : tie.Need-id-at-requires-3 Inv-loop μ-loop
+id-at-requires-3 c κs =
+    let pre = c .before .before .before .before .before .before .before .before .before .before .before .before .before .before .pre in
+    let if2 = c .before .before .before .before .before .if2 in
+    (pre .array, if2 .taken)
+
+lower-requires : tie.Need-lower-requires Inv-loop μ-loop
+lower-requires c κs =
+    let is-finite2 = c .before .before .before .before .is-finite2 in
+    let if3 = c .before .before .before .if3 in
+    let loop = c .before .before .before .before .before .before .before .before .loop in
+    let word-at2 = c .before .before .before .before .before .word-at2 in
+    let if4 = c .before .before .if4 in
+    let if5 = c .before .if5 in
+    let fin = sym (is-finite2 .ensures) ∙ not-false (is-finite2 .result) (if3 .left) in
+    (fin, (loop .inv .good, not-above (loop .inv) (word-at2 .result) fin (if4 .left) (if5 .taken)))
+
+add-requires : tie.Need-add-requires Inv-loop μ-loop
+add-requires c κs =
+    let is-finite2 = c .before .before .before .is-finite2 in
+    let if3 = c .before .before .if3 in
+    let loop = c .before .before .before .before .before .before .before .loop in
+    let word-at2 = c .before .before .before .before .word-at2 in
+    let if4 = c .before .if4 in
+    let if5 = c .if5 in
+    let fin = sym (is-finite2 .ensures) ∙ not-false (is-finite2 .result) (if3 .left) in
+    (fin, (loop .inv .good, not-above (loop .inv) (word-at2 .result) fin (if4 .left) (if5 .left)))
 
 loop-again : tie.Need-loop-again Inv-loop μ-loop
 loop-again c =
-    let step = c .step in
-    let id-at2 = c .before .id-at2 in
-    let word-at2 = c .before .before .before .before .word-at2 in
-    let args = c .before .before .before .before .before .before .before .before .before .before .before .before .before .before .args in
-    let loop = c .before .before .before .before .before .before .before .loop in
-    let if2 = c .before .before .before .before .before .if2 in
-    let is-finite2 = c .before .before .before .is-finite2 in
-    let if3 = c .before .before .if3 in
-    rw (step .ensures .0, id-at2 .ensures .0, word-at2 .ensures)
-    (summing-more (idAt (args .h .inner) (now (args .file)) (args .p .place)) (wordAt (args .h .inner) (now (args .file)) (args .p .place))
-    (args .p .length) (loop .inv) (if2 .taken) (sym (ap finite (word-at2 .ensures)) ∙ sym (is-finite2 .ensures) ∙ not-false (is-finite2 .result) (if3 .left)))
+    let s = c .before .before .before .before .before .before .loop .inv in
+    let v = c .before .before .before .word-at2 .result in
+    let fin = sym (c .before .before .is-finite2 .ensures) ∙ not-false (c .before .before .is-finite2 .result) (c .before .if3 .left) in
+    let l = c .before .before .before .before .if2 .taken in
+    let e = c .before .before .before .word-at2 .ensures in
+    ⊎-elim
+    (λ w. rw (w .3, w .4, w .5, w .2 .ensures .0) (summing-raise s v fin l e (w .1 .ensures .0) (w .0 .taken)))
+    (⊎-elim
+    (λ w. rw (w .4, w .5, w .6, w .3 .ensures .0) (summing-lower s v fin l e (w .2 .ensures .0) (w .0 .left) (w .1 .taken)))
+    (λ w. rw (w .3, w .4, w .5) (summing-add s v fin l e (w .2 .ensures .0) (w .0 .left) (w .1 .left))))
+    (c .if4 .came)
 
 finish-requires : tie.Need-finish-requires Inv-loop μ-loop
 finish-requires c κs =
@@ -133,12 +180,17 @@ part-totals-spec =
     returns
     id-at-requires
     start-requires
+    float-from-bits-low
     loop-holds
     word-at-requires-2
     (λ c κs. search needs)
     returns-2
+    float-from-bits-x
     id-at-requires-2
-    step-requires
+    raise-requires
+    id-at-requires-3
+    lower-requires
+    add-requires
     (λ c. search needs)
     (λ c. search needs)
     loop-again

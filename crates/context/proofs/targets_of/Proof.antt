@@ -1,8 +1,26 @@
 -- The three arrays, put for their definitions.
 use Rattle.context.specs.Context.{targetsOf}
+use Rattle.open.specs.Format.{meta}
+use Rattle.array.proofs.Bounds.{header-in}
+use native.Mathlib.Omega.{arith}
 use borrow.Author.Needs.{needs}
 use Rattle.context.proofs.targets_of.Statement.{statement}
 use Rattle.context.proofs.targets_of.Tie as tie
+
+of-specs-requires : tie.Need-of-specs-requires
+of-specs-requires c κs = header-in meta (c .before .before .args .file .now) (c .before .before .pre) 7 (omega arith) (omega arith)
+
+of-specs-requires-2 : tie.Need-of-specs-requires-2
+of-specs-requires-2 c κs =
+    let args = c .before .before .before .before .args in
+    let pre = c .before .before .before .before .pre in
+    header-in meta (args .file .now) pre 6 (omega arith) (omega arith)
+
+of-specs-requires-3 : tie.Need-of-specs-requires-3
+of-specs-requires-3 c κs =
+    let args = c .before .before .before .before .before .before .args in
+    let pre = c .before .before .before .before .before .before .pre in
+    header-in meta (args .file .now) pre 5 (omega arith) (omega arith)
 
 returns : tie.Need-returns
 unfolding targetsOf
@@ -18,13 +36,13 @@ targets-of-spec =
     (tie.spec
     (λ c. search needs)
     (λ c. search needs)
-    (λ c κs. search needs)
+    of-specs-requires
     (λ c. search needs)
     (λ c. search needs)
-    (λ c κs. search needs)
+    of-specs-requires-2
     (λ c. search needs)
     (λ c. search needs)
-    (λ c κs. search needs)
+    of-specs-requires-3
     (λ c. search needs)
     (λ c. search needs)
     (λ c. search needs)

@@ -1,14 +1,24 @@
 -- By whether the file opens.
 use Rattle.open.specs.Format as Format
-use Rattle.open.proofs.Answer.{answers, refuses}
+use Rattle.open.proofs.Answer.{answers, refuses, told-passed}
 use Rattle.count.specs.Count.{countIn, countOf}
 use Rattle.count.specs.declared.Count.the-variants.{Refused}
 use denote.Ref.{now}
-use Rattle.open.proofs.Answer.{single-pairs}
-use mathlib.Core.Path.{refl}
+use Rattle.array.proofs.Bounds.{header-in}
+use native.Mathlib.Omega.{arith}
 use borrow.Author.Needs.{needs}
 use Rattle.count.proofs.contexts.Statement.{statement}
 use Rattle.count.proofs.contexts.Tie as tie
+
+elements-requires : tie.Need-elements-requires
+elements-requires c κs =
+    let args = c .before .before .before .before .before .before .args in
+    let single-section = c .before .before .before .before .single-section in
+    let check-cct = c .before .before .before .check-cct in
+    let enum-told = c .before .enum-told in
+    let file = now (args .file) in
+    let opened = told-passed Format.cct file (single-section .ensures .0) (check-cct .ensures) (enum-told .given .1) in
+    header-in Format.cct file opened 0 (omega arith) (omega arith)
 
 returns : tie.Need-returns
 unfolding countOf countIn
@@ -19,7 +29,7 @@ returns c =
     let check-cct = c .before .before .before .before .check-cct in
     let enum-told = c .before .before .enum-told in
     rw (elements .ensures)
-    (answers Format.cct (now (args .file)) (single-pairs Format.cct (now (args .file)) _ refl (single-section .ensures)) (check-cct .ensures) Refused
+    (answers Format.cct (now (args .file)) (single-section .ensures .0) (check-cct .ensures) Refused
     (countIn (now (args .file))) (enum-told .given .1))
 
 returns-2 : tie.Need-returns-2
@@ -29,7 +39,7 @@ returns-2 c =
     let single-section = c .before .before .before .before .single-section in
     let check-cct = c .before .before .before .check-cct in
     let check = c .before .check in
-    refuses Format.cct _ (single-pairs Format.cct (now (args .file)) _ refl (single-section .ensures)) (check-cct .ensures) Refused _ _ (check .given .1)
+    refuses Format.cct _ (single-section .ensures .0) (check-cct .ensures) Refused _ _ (check .given .1)
 
 pub contexts-spec : {M : Type 1} → statement M
 contexts-spec =
@@ -40,7 +50,7 @@ contexts-spec =
     (λ c. search needs)
     (λ c. search needs)
     (λ c. search needs)
-    (λ c κs. search needs)
+    elements-requires
     (λ c. search needs)
     returns
     returns-2)

@@ -7,9 +7,7 @@ use Rattle.count.proofs.elements.Tie as tie
 
 returns : tie.Need-returns
 unfolding arrayOf field
-returns c =
-    let u32-at = c .u32-at in
-    u32-at .ensures
+returns c = c .load-u32 .ensures
 
 pub elements-spec : {M : Type 1} → statement M
-elements-spec = tie.close (tie.spec (λ c κs. search needs) (λ c. search needs) returns)
+elements-spec = tie.close (tie.spec (λ c. search needs) (λ c κs. search needs) (λ c. search needs) returns)

@@ -10,15 +10,15 @@ use Rattle.function.proofs.function_at.Tie as tie
 
 function-in-requires : tie.Need-function-in-requires
 function-in-requires c κs =
-    let meta-sections = c .before .before .before .meta-sections in
+    let meta-sections = c .before .before .before .before .meta-sections in
     let check-meta = c .before .before .check-meta in
     told-passed meta _ (meta-sections .ensures) (check-meta .ensures) (c .enum-told .given .1)
 
 returns : tie.Need-returns
 unfolding functionAt
 returns c =
-    let args = c .before .before .before .before .before .before .args in
-    let meta-sections = c .before .before .before .before .meta-sections in
+    let args = c .before .before .before .before .before .before .before .args in
+    let meta-sections = c .before .before .before .before .before .meta-sections in
     let check-meta = c .before .before .before .check-meta in
     let enum-told = c .before .enum-told in
     let file = args .file .now in
@@ -28,7 +28,7 @@ returns c =
 returns-2 : tie.Need-returns-2
 unfolding functionAt
 returns-2 c =
-    let meta-sections = c .before .before .before .before .meta-sections in
+    let meta-sections = c .before .before .before .before .before .meta-sections in
     let check-meta = c .before .before .before .check-meta in
     let check = c .before .check in
     refuses meta _ (meta-sections .ensures) (check-meta .ensures) Refused _ _ (check .given .1)

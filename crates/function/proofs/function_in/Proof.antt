@@ -1,5 +1,5 @@
 -- By whether the element is there.
-use Rattle.array.proofs.Bounds.{bounded}
+use Rattle.array.proofs.Bounds.{header-in, bounded}
 use native.Mathlib.Omega.{arith}
 use Rattle.open.specs.Format.{meta, u16, u32, held}
 use mathlib.Core.Path.{refl}
@@ -7,6 +7,21 @@ use Rattle.array.specs.Element.{onElement}
 use borrow.Author.Needs.{needs}
 use Rattle.function.proofs.function_in.Statement.{statement}
 use Rattle.function.proofs.function_in.Tie as tie
+
+of-specs-requires : tie.Need-of-specs-requires
+of-specs-requires c κs = header-in meta (c .before .before .args .file .now) (c .before .before .pre) 5 (omega arith) (omega arith)
+
+of-specs-requires-2 : tie.Need-of-specs-requires-2
+of-specs-requires-2 c κs =
+    let args = c .before .before .before .before .args in
+    let pre = c .before .before .before .before .pre in
+    header-in meta (args .file .now) pre 6 (omega arith) (omega arith)
+
+of-specs-requires-3 : tie.Need-of-specs-requires-3
+of-specs-requires-3 c κs =
+    let args = c .before .before .before .before .before .before .args in
+    let pre = c .before .before .before .before .before .before .pre in
+    header-in meta (args .file .now) pre 7 (omega arith) (omega arith)
 
 nth-requires : tie.Need-nth-requires
 nth-requires c κs =
@@ -40,13 +55,13 @@ function-in-spec =
     (tie.spec
     (λ c. search needs)
     (λ c. search needs)
-    (λ c κs. search needs)
+    of-specs-requires
     (λ c. search needs)
     (λ c. search needs)
-    (λ c κs. search needs)
+    of-specs-requires-2
     (λ c. search needs)
     (λ c. search needs)
-    (λ c κs. search needs)
+    of-specs-requires-3
     nth-requires
     (λ c. search needs)
     (λ c. search needs)

@@ -2,7 +2,7 @@
 use Rattle.hpcdb.proofs.Laws.{sections-flat}
 use Rattle.words.proofs.Laws.{answered, refused}
 use Rattle.words.specs.Convention.{flat, openWords}
-use Rattle.open.proofs.Answer.{answers, refuses}
+use Rattle.open.proofs.Answer.{answers, refuses, told-passed}
 use Rattle.open.specs.Format.{meta}
 use Rattle.open.specs.Opening.{pairs}
 use Rattle.refusal.specs.Number.{numberOf}
@@ -16,20 +16,21 @@ use Rattle.hpcdb.proofs.hpcdb_meta_open.Tie as tie
 returns : tie.Need-returns
 unfolding openWords
 returns c =
-    let args = c .before .before .before .before .before .before .before .before .before .before .before .before .before .before .before .before .before .before .before .before .before .before .args in
-    let meta-sections = c .before .before .before .before .before .before .before .before .before .before .before .before .before .before .before .before .before .before .before .before .meta-sections in
+    let args = c .before .before .before .before .before .before .before .before .before .before .before .before .before .before .before .before .before .before .before .before .before .before .before .args in
+    let meta-sections = c .before .before .before .before .before .before .before .before .before .before .before .before .before .before .before .before .before .before .before .before .before .meta-sections in
     let check-meta = c .before .before .before .before .before .before .before .before .before .before .before .before .before .before .before .before .before .before .before .check-meta in
     let enum-told = c .before .before .before .before .before .before .before .before .before .before .before .before .before .before .before .before .before .enum-told in
     let file = now (args .file) in
-    let pairs = meta-sections .ensures in
-    let opened = answers meta file pairs (check-meta .ensures) (λ r. numberOf r ∷ []) (λ ps. 0 ∷ flat ps) (enum-told .given .1) in
-    rw (sections-flat file _ pairs) (answered (now (args .out)) (sym opened))
+    let read = meta-sections .ensures in
+    let opened = answers meta file read (check-meta .ensures) (λ r. numberOf r ∷ []) (λ ps. 0 ∷ flat ps) (enum-told .given .1) in
+    let sections = told-passed meta file read (check-meta .ensures) (enum-told .given .1) in
+    rw (sections-flat file _ (sections .same)) (answered (now (args .out)) (sym opened))
 
 returns-2 : tie.Need-returns-2
 unfolding openWords
 returns-2 c =
-    let args = c .before .before .before .before .before .before .before .args in
-    let meta-sections = c .before .before .before .before .before .meta-sections in
+    let args = c .before .before .before .before .before .before .before .before .args in
+    let meta-sections = c .before .before .before .before .before .before .meta-sections in
     let check-meta = c .before .before .before .before .check-meta in
     let check = c .before .before .check in
     let code = c .code in

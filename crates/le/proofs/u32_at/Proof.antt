@@ -1,30 +1,16 @@
 -- A load inside the file; else byte by byte.
-use Rattle.le.proofs.Laws.{clamped}
-use mathlib.Core.Path.{_∙_}
+use native.Mathlib.Omega.{arith}
 use borrow.Author.Needs.{needs}
 use Rattle.le.proofs.u32_at.Statement.{statement}
 use Rattle.le.proofs.u32_at.Tie as tie
 
-returns : tie.Need-returns
-returns c =
-    let load-u32 = c .load-u32 in
-    let place-in = c .before .before .place-in in
-    load-u32 .ensures ∙ clamped 4 _ _ _ (place-in .ensures)
+add-load-u32 : tie.Need-add-load-u32
+add-load-u32 c = omega (arith, c .before .inside .ensures (c .if1 .taken))
 
-returns-2 : tie.Need-returns-2
-returns-2 c =
-    let bytewise = c .bytewise in
-    let place-in = c .before .before .place-in in
-    bytewise .ensures .0 ∙ clamped 4 _ _ _ (place-in .ensures)
+load-u32-requires : tie.Need-load-u32-requires
+load-u32-requires c κs = omega (arith, c .before .inside .ensures (c .if1 .taken))
 
 pub u32-at-spec : {M : Type 1} → statement M
 u32-at-spec =
     tie.close
-    (tie.spec
-    (λ c κs. search needs)
-    (λ c. search needs)
-    (λ c κs. search needs)
-    returns
-    (λ c κs. search needs)
-    (λ c. search needs)
-    returns-2)
+    (tie.spec (λ c κs. search needs) add-load-u32 load-u32-requires (λ c. search needs) (λ c κs. search needs) (λ c. search needs) (λ c. search needs))

@@ -1,23 +1,16 @@
 -- A load inside the file; else byte by byte.
-use Rattle.le.proofs.Laws.{clamped}
-use mathlib.Core.Path.{_∙_}
+use native.Mathlib.Omega.{arith}
 use borrow.Author.Needs.{needs}
 use Rattle.le.proofs.u64_at.Statement.{statement}
 use Rattle.le.proofs.u64_at.Tie as tie
 
-returns : tie.Need-returns
-returns c =
-    let load-u64 = c .load-u64 in
-    let place-in = c .before .before .place-in in
-    load-u64 .ensures ∙ clamped 8 _ _ _ (place-in .ensures)
+add-load-u64 : tie.Need-add-load-u64
+add-load-u64 c = omega (arith, c .before .inside .ensures (c .if1 .taken))
 
-returns-2 : tie.Need-returns-2
-returns-2 c =
-    let bytewise = c .bytewise in
-    let place-in = c .before .before .place-in in
-    bytewise .ensures .0 ∙ clamped 8 _ _ _ (place-in .ensures)
+load-u64-requires : tie.Need-load-u64-requires
+load-u64-requires c κs = omega (arith, c .before .inside .ensures (c .if1 .taken))
 
 pub u64-at-spec : {M : Type 1} → statement M
 u64-at-spec =
     tie.close
-    (tie.spec (λ c κs. search needs) (λ c. search needs) (λ c κs. search needs) returns (λ c κs. search needs) returns-2)
+    (tie.spec (λ c κs. search needs) add-load-u64 load-u64-requires (λ c. search needs) (λ c κs. search needs) (λ c. search needs))

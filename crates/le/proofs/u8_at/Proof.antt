@@ -1,16 +1,16 @@
--- The byte there, or past the end nothing, which reads as 0.
-use Prim.Native.Nat.{_+_}
-use mathlib.Core.Path.{_∙_, sym}
+-- A load inside the file; else byte by byte.
+use native.Mathlib.Omega.{arith}
 use borrow.Author.Needs.{needs}
-use Rattle.le.proofs.Laws.{one, past, clamped}
 use Rattle.le.proofs.u8_at.Statement.{statement}
 use Rattle.le.proofs.u8_at.Tie as tie
 
-returns : tie.Need-returns
-returns c = sym (one _ _) ∙ clamped 1 _ _ _ (c .before .before .place-in .ensures)
+add-load-u8 : tie.Need-add-load-u8
+add-load-u8 c = omega (arith, c .before .inside .ensures (c .if1 .taken))
 
-returns-2 : tie.Need-returns-2
-returns-2 c = sym (past 1 _ _ (c .if1 .left)) ∙ clamped 1 _ _ _ (c .before .place-in .ensures)
+load-u8-requires : tie.Need-load-u8-requires
+load-u8-requires c κs = omega (arith, c .before .inside .ensures (c .if1 .taken))
 
 pub u8-at-spec : {M : Type 1} → statement M
-u8-at-spec = tie.close (tie.spec (λ c κs. search needs) (λ c. search needs) returns returns-2)
+u8-at-spec =
+    tie.close
+    (tie.spec (λ c κs. search needs) add-load-u8 load-u8-requires (λ c. search needs) (λ c κs. search needs) (λ c. search needs) (λ c. search needs))

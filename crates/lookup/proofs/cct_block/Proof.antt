@@ -4,8 +4,8 @@ use Rattle.lookup.proofs.Laws.{one-section}
 use Rattle.lookup.specs.Lookup.{checkedAt, cctBlock}
 use Rattle.lookup.specs.declared.Checked.{Checked}
 use Rattle.lookup.specs.declared.Checked.the-variants.{Refused}
-use Rattle.array.proofs.Bounds.{bounded}
-use Rattle.open.proofs.Answer.{answers, refuses, told-passed, single-pairs, single-list}
+use Rattle.array.proofs.Bounds.{header-in, bounded}
+use Rattle.open.proofs.Answer.{answers, refuses, told-passed, single-list}
 use Rattle.open.specs.Format as Format
 use Prim.Native.Nat.{ℕ}
 use mathlib.Core.List.{List}
@@ -24,10 +24,14 @@ checked-at-requires c κs =
     let check-cct = c .before .before .before .before .check-cct in
     let enum-told = c .before .before .enum-told in
     let cct-shape = c .before .cct-shape in
-    let opened = told-passed Format.cct _ (single-pairs Format.cct (now (args .file)) _ refl (single-section .ensures)) (check-cct .ensures)
+    let opened = told-passed Format.cct _ (single-section .ensures .0) (check-cct .ensures)
     (enum-told .given .1) in (
       rw (cct-shape .ensures) (inl refl, inr refl),
-      bounded Format.cct (now (args .file)) (omega arith) opened 0 (omega arith) (Format.u32 8) (Format.held (Format.u8 12)) refl (omega arith) refl,
+      (
+        bounded Format.cct (now (args .file)) (omega arith) opened 0 (omega arith) (Format.u32 8) (Format.held (Format.u8 12)) refl
+            (omega arith) refl,
+        header-in Format.cct (now (args .file)) opened 0 (omega arith) (omega arith),
+      ),
     )
 
 returns : tie.Need-returns
@@ -41,8 +45,8 @@ returns c =
     let enum-told = c .before .before .before .enum-told in
     let block : List (List ℕ) → Checked = λ ps. checkedAt (now (args .file)) cctShape ps (args .context) in
     rw (checked-at .ensures, cct-shape .ensures)
-    (one-section (now (args .file)) cctShape _ (args .context) ∙ ap block (single-list (now (args .file)) (single-section .ensures))
-    ∙ answers Format.cct (now (args .file)) (single-pairs Format.cct (now (args .file)) _ refl (single-section .ensures))
+    (one-section (now (args .file)) cctShape _ (args .context) ∙ ap block (single-list (now (args .file)) (single-section .ensures .0))
+    ∙ answers Format.cct (now (args .file)) (single-section .ensures .0)
     (check-cct .ensures) Refused block (enum-told .given .1))
 
 returns-2 : tie.Need-returns-2
@@ -52,7 +56,7 @@ returns-2 c =
     let single-section = c .before .before .before .before .single-section in
     let check-cct = c .before .before .before .check-cct in
     let check = c .before .check in
-    refuses Format.cct _ (single-pairs Format.cct (now (args .file)) _ refl (single-section .ensures)) (check-cct .ensures) Refused _ _ (check .given .1)
+    refuses Format.cct _ (single-section .ensures .0) (check-cct .ensures) Refused _ _ (check .given .1)
 
 pub cct-block-spec : {M : Type 1} → statement M
 cct-block-spec =

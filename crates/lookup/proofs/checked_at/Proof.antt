@@ -9,7 +9,7 @@ nth-requires : tie.Need-nth-requires
 nth-requires c κs =
     let of-infos = c .of-infos in
     let pre = c .before .before .pre in
-    rw (of-infos .ensures) (pre .1)
+    rw (of-infos .ensures) (pre .1 .0)
 
 returns : tie.Need-returns
 unfolding checkedAt refusedBy onElement

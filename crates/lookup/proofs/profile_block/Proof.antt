@@ -3,7 +3,7 @@ use Rattle.block.specs.Block.{profileShape}
 use Rattle.lookup.specs.Lookup.{checkedAt, profileBlock}
 use Rattle.lookup.specs.declared.Checked.{Checked}
 use Rattle.lookup.specs.declared.Checked.the-variants.{Refused}
-use Rattle.array.proofs.Bounds.{bounded}
+use Rattle.array.proofs.Bounds.{header-in, bounded}
 use Rattle.open.proofs.Answer.{answers, refuses, told-passed, two-pairs}
 use Rattle.open.specs.Format as Format
 use Prim.Native.Nat.{ℕ}
@@ -25,7 +25,11 @@ checked-at-requires c κs =
     let args = c .before .before .before .before .before .before .before .before .args in
     let opened = told-passed Format.profile _ (profile-sections .ensures) (check-profile .ensures) (enum-told .given .1) in (
       rw (profile-shape .ensures) (inr refl, inl refl),
-      bounded Format.profile (now (args .file)) (omega arith) opened 0 (omega arith) (Format.u32 8) (Format.held (Format.u8 12)) refl (omega arith) refl,
+      (
+        bounded Format.profile (now (args .file)) (omega arith) opened 0 (omega arith) (Format.u32 8) (Format.held (Format.u8 12)) refl
+            (omega arith) refl,
+        header-in Format.profile (now (args .file)) opened 0 (omega arith) (omega arith),
+      ),
     )
 
 returns : tie.Need-returns

@@ -13,7 +13,7 @@ returns : tie.Need-returns
 unfolding counts arrayOf field
 returns c =
     let d = c .before .before .before .before .before .before .before .before in
-    let e = d .before .before .before .before .before .before .before .before in
+    let e = d .before .before .before .before .before .before .before .before .before in
     let file = e .args .file .now in (
       rw (
         c .u32-at4 .ensures,
@@ -22,17 +22,17 @@ returns c =
         c .before .before .before .before .before .before .u32-at .ensures,
         d .u8-at .ensures,
       )
-          (answers meta file (d .before .before .before .before .before .before .meta-sections .ensures)
+          (answers meta file (d .before .before .before .before .before .before .before .meta-sections .ensures)
           (d .before .before .before .before .before .check-meta .ensures) (λ r. 0 ∷ 0 ∷ 0 ∷ 0 ∷ 0 ∷ []) (λ ps. countsIn file ps)
           (d .before .before .enum-told .given .1)),
-      code-is meta file (d .before .before .before .before .before .before .meta-sections .ensures)
+      code-is meta file (d .before .before .before .before .before .before .before .meta-sections .ensures)
           (d .before .before .before .before .before .check-meta .ensures) (d .before .before .before .before .code .ensures),
     )
 
 returns-2 : tie.Need-returns-2
 unfolding counts
 returns-2 c =
-    let meta-sections = c .before .before .before .before .meta-sections in
+    let meta-sections = c .before .before .before .before .before .meta-sections in
     let check-meta = c .before .before .before .check-meta in
     let code = c .before .before .code in (
       refuses meta _ (meta-sections .ensures) (check-meta .ensures) (λ r. 0 ∷ 0 ∷ 0 ∷ 0 ∷ 0 ∷ []) _ _ (c .enum-told2 .given .1),

@@ -11,8 +11,8 @@ use Rattle.meta.proofs.general_text.Tie as tie
 returns : tie.Need-returns
 unfolding generalText
 returns c =
-    let args = c .before .before .before .before .before .before .before .before .args in
-    let meta-sections = c .before .before .before .before .before .before .meta-sections in
+    let args = c .before .before .before .before .before .before .before .before .before .args in
+    let meta-sections = c .before .before .before .before .before .before .before .meta-sections in
     let check-meta = c .before .before .before .before .before .check-meta in
     let enum-told = c .before .before .before .enum-told in
     let file = args .file .now in
@@ -22,7 +22,7 @@ returns c =
 returns-2 : tie.Need-returns-2
 unfolding generalText
 returns-2 c =
-    let meta-sections = c .before .before .before .before .meta-sections in
+    let meta-sections = c .before .before .before .before .before .meta-sections in
     let check-meta = c .before .before .before .check-meta in
     let check = c .before .check in
     refuses meta _ (meta-sections .ensures) (check-meta .ensures) text.Refused _ _ (check .given .1)

@@ -5,16 +5,25 @@ use Rattle.meta.specs.Names.{kindAt, kindIn}
 use Rattle.text.specs.declared.Text.the-variants as text
 use mathlib.Core.Path.{refl}
 use Rattle.open.specs.Format.{u8, fixed}
-use Rattle.array.proofs.Bounds.{bounded}
+use Rattle.array.proofs.Bounds.{header-in, bounded}
 use native.Mathlib.Omega.{arith}
 use borrow.Author.Needs.{needs}
 use Rattle.meta.proofs.kind_at.Statement.{statement}
 use Rattle.meta.proofs.kind_at.Tie as tie
 
+of-names-requires : tie.Need-of-names-requires
+of-names-requires c κs =
+    let meta-sections = c .before .before .before .before .before .meta-sections in
+    let check-meta = c .before .before .before .check-meta in
+    let enum-told = c .before .enum-told in
+    let args = c .before .before .before .before .before .before .before .args in
+    let opened = told-passed meta _ (meta-sections .ensures) (check-meta .ensures) (enum-told .given .1) in
+    header-in meta (args .file .now) opened 1 (omega arith) (omega arith)
+
 element-text-requires : tie.Need-element-text-requires
 element-text-requires c κs =
-    let args = c .before .before .before .before .before .before .before .before .args in
-    let meta-sections = c .before .before .before .before .before .before .meta-sections in
+    let args = c .before .before .before .before .before .before .before .before .before .args in
+    let meta-sections = c .before .before .before .before .before .before .before .meta-sections in
     let check-meta = c .before .before .before .before .before .check-meta in
     let enum-told = c .before .before .before .enum-told in
     let of-names = c .before .of-names in
@@ -24,9 +33,9 @@ element-text-requires c κs =
 returns : tie.Need-returns
 unfolding kindAt
 returns c =
-    let args = c .before .before .before .before .before .before .before .before .before .args in
+    let args = c .before .before .before .before .before .before .before .before .before .before .args in
     let of-names = c .before .before .of-names in
-    let meta-sections = c .before .before .before .before .before .before .before .meta-sections in
+    let meta-sections = c .before .before .before .before .before .before .before .before .meta-sections in
     let check-meta = c .before .before .before .before .before .before .check-meta in
     let enum-told = c .before .before .before .before .enum-told in
     let file = args .file .now in
@@ -36,7 +45,7 @@ returns c =
 returns-2 : tie.Need-returns-2
 unfolding kindAt
 returns-2 c =
-    let meta-sections = c .before .before .before .before .meta-sections in
+    let meta-sections = c .before .before .before .before .before .meta-sections in
     let check-meta = c .before .before .before .check-meta in
     let check = c .before .check in
     refuses meta _ (meta-sections .ensures) (check-meta .ensures) text.Refused _ _ (check .given .1)
@@ -50,7 +59,7 @@ kind-at-spec =
     (λ c. search needs)
     (λ c. search needs)
     (λ c. search needs)
-    (λ c κs. search needs)
+    of-names-requires
     (λ c. search needs)
     element-text-requires
     (λ c. search needs)

@@ -11,19 +11,19 @@ use Rattle.metric.proofs.metric_at.Tie as tie
 
 metric-nested-requires : tie.Need-metric-nested-requires
 metric-nested-requires c κs =
-    let meta-sections = c .before .before .before .before .meta-sections in
-    let check-meta = c .before .before .before .check-meta in
-    let enum-told = c .before .enum-told in
+    let meta-sections = c .before .before .before .before .before .before .meta-sections in
+    let check-meta = c .before .before .before .before .check-meta in
+    let enum-told = c .before .before .enum-told in
     told-passed meta _ (meta-sections .ensures) (check-meta .ensures) (enum-told .given .1)
 
 returns : tie.Need-returns
 unfolding metricAt
 returns c =
-    let args = c .before .before .before .before .before .before .before .before .args in
+    let args = c .before .before .before .before .before .before .before .before .before .before .args in
     let metric-nested = c .before .metric-nested in
-    let meta-sections = c .before .before .before .before .before .before .meta-sections in
-    let check-meta = c .before .before .before .before .before .check-meta in
-    let enum-told = c .before .before .before .enum-told in
+    let meta-sections = c .before .before .before .before .before .before .before .before .meta-sections in
+    let check-meta = c .before .before .before .before .before .before .check-meta in
+    let enum-told = c .before .before .before .before .enum-told in
     let file = args .file .now in
     rw (c .metric-of .ensures, metric-nested .ensures .0)
     (answers meta file (meta-sections .ensures) (check-meta .ensures) metric.Refused
@@ -32,7 +32,7 @@ returns c =
 returns-2 : tie.Need-returns-2
 unfolding metricAt
 returns-2 c =
-    let meta-sections = c .before .before .before .before .meta-sections in
+    let meta-sections = c .before .before .before .before .before .meta-sections in
     let check-meta = c .before .before .before .check-meta in
     let check = c .before .check in
     refuses meta _ (meta-sections .ensures) (check-meta .ensures) metric.Refused _ _ (check .given .1)

@@ -1,5 +1,5 @@
 -- The metrics lie in the file, which opens.
-use Rattle.array.proofs.Bounds.{bounded}
+use Rattle.array.proofs.Bounds.{header-in, bounded}
 use native.Mathlib.Omega.{arith}
 use Rattle.open.specs.Format.{meta, u8, u32, held}
 use mathlib.Core.Path.{refl}
@@ -7,6 +7,11 @@ use Rattle.metric.proofs.Inner.{nested-bounded}
 use borrow.Author.Needs.{needs}
 use Rattle.metric.proofs.metric_nested.Statement.{statement}
 use Rattle.metric.proofs.metric_nested.Tie as tie
+
+of-infos-requires : tie.Need-of-infos-requires
+of-infos-requires c κs =
+    let start = c .before .before in
+    omega (arith, header-in meta (start .args .file .now) (start .pre) 2 (omega arith) (omega arith))
 
 nested-at-requires : tie.Need-nested-at-requires
 nested-at-requires c κs =
@@ -29,7 +34,7 @@ metric-nested-spec =
     (tie.spec
     (λ c. search needs)
     (λ c. search needs)
-    (λ c κs. search needs)
+    of-infos-requires
     (λ c κs. search needs)
     (λ c. search needs)
     (λ c. search needs)

@@ -11,9 +11,9 @@ use Rattle.metric.proofs.summary_at.Tie as tie
 
 scope-nested-requires : tie.Need-scope-nested-requires
 scope-nested-requires c κs =
-    let meta-sections = c .before .before .before .before .meta-sections in
-    let check-meta = c .before .before .before .check-meta in
-    let enum-told = c .before .enum-told in
+    let meta-sections = c .before .before .before .before .before .before .meta-sections in
+    let check-meta = c .before .before .before .before .check-meta in
+    let enum-told = c .before .before .enum-told in
     told-passed meta _ (meta-sections .ensures) (check-meta .ensures) (enum-told .given .1)
 
 summary-of-requires : tie.Need-summary-of-requires
@@ -22,11 +22,11 @@ summary-of-requires c κs = c .scope-nested .ensures .1
 returns : tie.Need-returns
 unfolding summaryAt
 returns c =
-    let args = c .before .before .before .before .before .before .before .before .args in
+    let args = c .before .before .before .before .before .before .before .before .before .before .args in
     let scope-nested = c .before .scope-nested in
-    let meta-sections = c .before .before .before .before .before .before .meta-sections in
-    let check-meta = c .before .before .before .before .before .check-meta in
-    let enum-told = c .before .before .before .enum-told in
+    let meta-sections = c .before .before .before .before .before .before .before .before .meta-sections in
+    let check-meta = c .before .before .before .before .before .before .check-meta in
+    let enum-told = c .before .before .before .before .enum-told in
     let file = args .file .now in
     rw (c .summary-of .ensures, scope-nested .ensures .0)
     (answers meta file (meta-sections .ensures) (check-meta .ensures) summary.Refused
@@ -35,7 +35,7 @@ returns c =
 returns-2 : tie.Need-returns-2
 unfolding summaryAt
 returns-2 c =
-    let meta-sections = c .before .before .before .before .meta-sections in
+    let meta-sections = c .before .before .before .before .before .meta-sections in
     let check-meta = c .before .before .before .check-meta in
     let check = c .before .check in
     refuses meta _ (meta-sections .ensures) (check-meta .ensures) summary.Refused _ _ (check .given .1)

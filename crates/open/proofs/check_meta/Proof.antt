@@ -1,28 +1,20 @@
--- The three groups of rules in their order.
+-- 5 to 7 after the front.
 use Rattle.open.specs.Opening.{openingWith}
+use Rattle.refusal.proofs.Checks.{after-passed, after-refused}
+use mathlib.Core.Path.{sym, _∙_}
 use borrow.Author.Needs.{needs}
 use Rattle.open.proofs.check_meta.Statement.{statement}
 use Rattle.open.proofs.check_meta.Tie as tie
 
 returns : tie.Need-returns
 unfolding openingWith
-returns c = rw (
-  c .first2 .ensures,
-  c .before .first .ensures,
-  c .before .before .meta-header-checks .ensures,
-  c .before .before .before .meta-section-checks .ensures,
-  c .before .before .before .before .front .ensures,
-)
+returns c = after-passed (sym (c .before .before .before .front .ensures) ∙ c .before .enum-told .given .1) (c .meta-rules .ensures)
+
+returns-2 : tie.Need-returns-2
+unfolding openingWith
+returns-2 c = after-refused _ (sym (c .before .before .before .front .ensures) ∙ c .before .front2 .given .1)
 
 pub check-meta-spec : {M : Type 1} → statement M
 check-meta-spec =
     tie.close
-    (tie.spec
-    (λ c. search needs)
-    (λ c. search needs)
-    (λ c κs. search needs)
-    (λ c κs. search needs)
-    (λ c κs. search needs)
-    (λ c κs. search needs)
-    (λ c κs. search needs)
-    returns)
+    (tie.spec (λ c κs. search needs) (λ c. search needs) (λ c κs. search needs) (λ c. search needs) returns returns-2)

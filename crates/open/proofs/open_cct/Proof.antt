@@ -10,13 +10,13 @@ returns : tie.Need-returns
 unfolding pairs pairsFrom
 returns c =
     let d = c .before .before in
-    passed cct _ (d .before .before .single-section .ensures) (d .before .check-cct .ensures) (d .code .ensures) (c .enum-told .given .1)
+    passed cct _ (d .before .before .single-section .ensures .0) (d .before .check-cct .ensures) (d .code .ensures) (c .enum-told .given .1)
 
 returns-2 : tie.Need-returns-2
 unfolding pairs pairsFrom blank
 returns-2 c =
     let d = c .before .before in
-    refused cct _ (d .before .before .single-section .ensures) (d .before .check-cct .ensures) (d .code .ensures) _ (c .enum-told2 .given .1)
+    refused cct _ (d .before .before .single-section .ensures .0) (d .before .check-cct .ensures) (d .code .ensures) _ (c .enum-told2 .given .1)
 
 pub open-cct-spec : {M : Type 1} → statement M
 open-cct-spec =

@@ -10,13 +10,13 @@ returns : tie.Need-returns
 unfolding pairs pairsFrom
 returns c =
     let d = c .before .before in
-    passed trace _ (d .before .before .single-section .ensures) (d .before .check-trace .ensures) (d .code .ensures) (c .enum-told .given .1)
+    passed trace _ (d .before .before .single-section .ensures .1) (d .before .check-trace .ensures) (d .code .ensures) (c .enum-told .given .1)
 
 returns-2 : tie.Need-returns-2
 unfolding pairs pairsFrom blank
 returns-2 c =
     let d = c .before .before in
-    refused trace _ (d .before .before .single-section .ensures) (d .before .check-trace .ensures) (d .code .ensures) _ (c .enum-told2 .given .1)
+    refused trace _ (d .before .before .single-section .ensures .1) (d .before .check-trace .ensures) (d .code .ensures) _ (c .enum-told2 .given .1)
 
 pub open-trace-spec : {M : Type 1} → statement M
 open-trace-spec =

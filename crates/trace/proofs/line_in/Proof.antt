@@ -10,7 +10,7 @@ nth-requires : tie.Need-nth-requires
 nth-requires c κs =
     let of-infos = c .of-infos in
     let pre = c .before .before .pre in
-    rw (of-infos .ensures) pre
+    rw (of-infos .ensures) (pre .0)
 
 returns : tie.Need-returns
 unfolding lineIn onElement

@@ -3,7 +3,7 @@ use Rattle.tuple.proofs.Fits.{tuples-inside}
 use Rattle.tuple.specs.Tuple.{tupleIn, tupleAt}
 use Rattle.tuple.specs.declared.Tuple.{Tuple}
 use Rattle.tuple.specs.declared.Tuple.the-variants.{Refused}
-use Rattle.array.proofs.Bounds.{bounded}
+use Rattle.array.proofs.Bounds.{header-in, bounded}
 use Rattle.open.proofs.Answer.{answers, refuses, told-passed, two-pairs}
 use Rattle.open.specs.Format as Format
 use Prim.Native.Nat.{ℕ}
@@ -22,8 +22,9 @@ tuple-in-requires c κs =
     let enum-told = c .before .before .enum-told in
     let args = c .before .before .before .before .before .before .before .args in
     let opened = told-passed Format.profile _ (profile-sections .ensures) (check-profile .ensures) (enum-told .given .1) in (
-      bounded Format.profile (now (args .file)) (omega arith) opened 0 (omega arith) (Format.u32 8) (Format.held (Format.u8 12)) refl (omega arith) refl,
-      tuples-inside (now (args .file)) opened,
+      bounded Format.profile (now (args .file)) (omega arith) opened 0 (omega arith) (Format.u32 8) (Format.held (Format.u8 12)) refl
+          (omega arith) refl,
+      (tuples-inside (now (args .file)) opened, header-in Format.profile (now (args .file)) opened 0 (omega arith) (omega arith)),
     )
 
 returns : tie.Need-returns

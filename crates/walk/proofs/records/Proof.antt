@@ -10,16 +10,16 @@ use Rattle.walk.proofs.records.Tie as tie
 
 walk-in-requires : tie.Need-walk-in-requires
 walk-in-requires c κs =
-    let meta-sections = c .before .before .before .before .before .before .meta-sections in
+    let meta-sections = c .before .before .before .before .before .before .before .meta-sections in
     let check-meta = c .before .before .before .before .before .check-meta in
     let enum-told = c .before .before .before .enum-told in
     told-passed meta _ (meta-sections .ensures) (check-meta .ensures) (enum-told .given .1)
 
 returns-2 : tie.Need-returns-2
 returns-2 c =
-    let args = c .before .before .before .before .before .before .before .before .before .args in
+    let args = c .before .before .before .before .before .before .before .before .before .before .args in
     let check = c .before .check in
-    let meta-sections = c .before .before .before .before .meta-sections in
+    let meta-sections = c .before .before .before .before .before .meta-sections in
     let check-meta = c .before .before .before .check-meta in
     untouched (now (args .file)) (now (args .listing)) (now (args .table)) (now (args .records)) (check .given .0 .0)
     (sym (told meta _ (meta-sections .ensures) (check-meta .ensures)) ∙ check .given .1)

@@ -214,12 +214,15 @@ pub fn cct(metrics: usize, profiles: usize) -> Vec<u8> {
     file.finished()
 }
 
-/// A trace.db of one line, with a sample every 10 nanoseconds.
+/// Nanoseconds from one sample to the next.
+pub const SAMPLE_INTERVAL: u64 = 10;
+
+/// A trace.db of one line, from time 0 on.
 pub fn trace(samples: usize) -> Vec<u8> {
     let mut file = Growing::new(Database::Trace);
     let start = file.here();
     for k in 0..samples {
-        file.append(8, 10 * k as u64);
+        file.append(8, SAMPLE_INTERVAL * k as u64);
         file.append(4, (k % 1000) as u64);
     }
     let end = file.bytes.len();

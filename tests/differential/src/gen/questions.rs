@@ -224,15 +224,19 @@ fn blocks_question(rng: &mut Rng, function: Function, known: &blocks::Known, foc
 /// Pairs about one block, at times with a word that belongs to none.
 fn pairs(rng: &mut Rng, known: &blocks::Known, element: u64) -> Vec<u64> {
     let count = if rng.one_in(30) { 300 } else { rng.below(12) };
-    let mut pairs = Vec::new();
-    for _ in 0..count {
+    let mut pair = || {
         let [_, index_id, value_id] = some_value(rng, known, Some(element as usize));
-        pairs.extend([near_id(rng, index_id), near_id(rng, value_id)]);
+        [near_id(rng, index_id), near_id(rng, value_id)]
+    };
+    let mut pairs: Vec<[u64; 2]> = (0..count).map(|_| pair()).collect();
+    if rng.one_in(2) {
+        pairs.sort_unstable();
     }
+    let mut words = pairs.concat();
     if rng.one_in(4) {
-        pairs.push(rng.edge());
+        words.push(rng.edge());
     }
-    pairs
+    words
 }
 
 fn trace_question(rng: &mut Rng, function: Function, known: &trace::Known, focus: Option<usize>) -> Question {

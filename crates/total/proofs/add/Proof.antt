@@ -1,0 +1,19 @@
+-- The step where the value is neither: only the sum changes, for any id.
+use borrow.Author.Needs.{needs}
+use Rattle.total.specs.Totals.{choose, stepOf}
+use Rattle.total.proofs.Tallies.{good-next}
+use Rattle.total.proofs.add.Statement.{statement}
+use Rattle.total.proofs.add.Tie as tie
+
+returns : tie.Need-returns
+unfolding stepOf choose
+returns c =
+    let a = c .before .args in
+    let pre = c .before .pre in
+    let above = pre .1 .1 .0 in
+    let below = pre .1 .1 .1 in
+    let sum = c .plus .ensures in
+    (λ id. rw (below, above, sum), good-next (a .t) 0 (a .bits) (pre .1 .0) (pre .0) (rw (below, above, sum)))
+
+pub add-spec : {M : Type 1} → statement M
+add-spec = tie.close (tie.spec (λ c κs. search needs) returns)

@@ -1,0 +1,154 @@
+/* The contexts of meta.db in preorder, without recursion: for each level from the roots to the current array, the stack
+ * has the part that is yet to be visited. */
+#include "meta.h"
+
+#include "plain.h"
+
+/* HEAD_SIZE: bytes of a context before its flex. DEEPEST: a context below this depth is refused, but only after its
+ * other checks. */
+enum { HEAD_SIZE = 24, DEEPEST = 200 };
+
+enum { HAS_FUNCTION = 1, HAS_SOURCE = 2, HAS_POINT = 4 };
+
+/* Where the parts of a context's flex begin, and how many words it needs. */
+struct flex {
+    unsigned source, point, words;
+};
+
+static inline struct flex flex_of(unsigned flags)
+{
+    unsigned source = flags & HAS_FUNCTION ? 1 : 0;
+    unsigned point = source + (flags & HAS_SOURCE ? 2 : 0);
+    return (struct flex){source, point, point + (flags & HAS_POINT ? 2 : 0)};
+}
+
+static inline uint64_t flex_word(const uint8_t *context, unsigned k)
+{
+    return load64(context + HEAD_SIZE + 8 * k);
+}
+
+static inline bool links_hold(const struct meta *meta, const uint8_t *context, struct flex flex)
+{
+    unsigned flags = context[20];
+
+    if (flags & HAS_FUNCTION && !leads_to(flex_word(context, 0), &meta->functions))
+        return false;
+    if (flags & HAS_SOURCE && !leads_to(flex_word(context, flex.source), &meta->files))
+        return false;
+    if (flags & HAS_POINT && !leads_to(flex_word(context, flex.point), &meta->modules))
+        return false;
+    return true;
+}
+
+/* The checks of the first context of `rest` that need nothing but the file; gives its size and its children. */
+static inline uint32_t check_context(const struct meta *meta, struct span rest, uint64_t *size, struct span *children)
+{
+    const uint8_t *context = meta->file + rest.start;
+    uint64_t left = rest.end - rest.start;
+
+    if (left < HEAD_SIZE)
+        return HPCDB_CONTEXT;
+    unsigned words = context[23];
+    struct flex flex = flex_of(context[20]);
+    *size = HEAD_SIZE + 8 * words;
+    if (left < *size || words < flex.words)
+        return HPCDB_CONTEXT;
+    if (!links_hold(meta, context, flex))
+        return HPCDB_LINK;
+    if (!read_context_array(meta->context_room, load64(context + 8), load64(context), children))
+        return HPCDB_ARRAY;
+    return HPCDB_OK;
+}
+
+static inline void write_record(const uint8_t *context, uint64_t place, uint64_t depth, uint64_t *record)
+{
+    unsigned flags = context[20] & (HAS_FUNCTION | HAS_SOURCE | HAS_POINT);
+    struct flex flex = flex_of(flags);
+
+    record[HPCDB_RECORD_PLACE] = place;
+    record[HPCDB_RECORD_DEPTH] = depth;
+    record[HPCDB_RECORD_CTX_ID] = load32(context + 16);
+    record[HPCDB_RECORD_RELATION] = context[21];
+    record[HPCDB_RECORD_LEXICAL_TYPE] = context[22];
+    record[HPCDB_RECORD_FLAGS] = flags;
+    record[HPCDB_RECORD_FUNCTION] = flags & HAS_FUNCTION ? flex_word(context, 0) : 0;
+    record[HPCDB_RECORD_FILE] = flags & HAS_SOURCE ? flex_word(context, flex.source) : 0;
+    record[HPCDB_RECORD_LINE] = flags & HAS_SOURCE ? (uint32_t)flex_word(context, flex.source + 1) : 0;
+    record[HPCDB_RECORD_MODULE] = flags & HAS_POINT ? flex_word(context, flex.point) : 0;
+    record[HPCDB_RECORD_OFFSET] = flags & HAS_POINT ? flex_word(context, flex.point + 1) : 0;
+}
+
+/* What a walk may write to. */
+struct lent {
+    uint64_t *listing, *table, *records;
+    size_t listing_length, table_length, record_count;
+};
+
+/* Makes the other checks of a context and lists it, as the one after `listed` others. */
+static inline uint32_t list(const struct lent *lent, const uint8_t *context, uint64_t place, uint64_t depth,
+                            uint64_t listed)
+{
+    uint64_t id = load32(context + 16);
+
+    if (depth > DEEPEST)
+        return HPCDB_DEEP;
+    if (id >= lent->table_length)
+        return HPCDB_SLOT;
+    if (lent->table[id] != 0)
+        return HPCDB_TWICE;
+    if (listed == lent->listing_length)
+        return HPCDB_CUT;
+    lent->listing[listed] = place;
+    lent->table[id] = place;
+    if (listed < lent->record_count)
+        write_record(context, place, depth, lent->records + listed * HPCDB_RECORD_WORDS);
+    return HPCDB_OK;
+}
+
+static uint32_t walk(const struct meta *meta, const struct lent *lent, uint64_t *listed)
+{
+    struct span stack[DEEPEST + 1];
+    unsigned level = 0;
+
+    stack[0] = meta->roots;
+    for (;;) {
+        while (stack[level].start == stack[level].end) {
+            if (level == 0)
+                return HPCDB_OK;
+            level--;
+        }
+        uint64_t place = stack[level].start, size;
+        struct span children;
+        uint32_t code;
+        if ((code = check_context(meta, stack[level], &size, &children)) != HPCDB_OK)
+            return code;
+        if ((code = list(lent, meta->file + place, place, level + 1, *listed)) != HPCDB_OK)
+            return code;
+        ++*listed;
+        stack[level].start += size;
+        if (children.start != children.end)
+            stack[++level] = children;
+    }
+}
+
+uint32_t plain_meta_records(const uint8_t *file, size_t file_length, uint64_t *listing, size_t listing_length,
+                            uint64_t *table, size_t table_length, uint64_t *records, size_t records_length,
+                            uint64_t out[1])
+{
+    struct lent lent = {listing, table, records, listing_length, table_length, records_length / HPCDB_RECORD_WORDS};
+    struct meta meta;
+
+    out[0] = 0;
+    uint32_t code = plain_read_meta(file, file_length, &meta);
+    if (code != HPCDB_OK)
+        return code;
+    for (size_t k = 0; k < table_length; k++)
+        table[k] = 0;
+    return walk(&meta, &lent, out);
+}
+
+uint32_t plain_meta_walk(const uint8_t *file, size_t file_length, uint64_t *listing, size_t listing_length,
+                         uint64_t *table, size_t table_length, uint64_t out[1])
+{
+    return plain_meta_records(file, file_length, listing, listing_length, table, table_length, NULL, 0, out);
+}

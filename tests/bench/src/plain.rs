@@ -1,0 +1,64 @@
+//! The C interface of the plain C reader, as `differential::ffi` has the library's: for each function of plain.h a safe
+//! function over slices, under the name that the library's has.
+
+/// After the file come numbers, a slice that is read, slices that are written, and `out`.
+macro_rules! functions {
+    ($($name:ident = $symbol:literal($($number:ident),*)
+        $(reads($read:ident))? $(writes($($written:ident: $unit:ty),*))? $(out $words:literal)?;)*) => {
+        mod exported {
+            extern "C" {
+                $(
+                    #[link_name = $symbol]
+                    pub fn $name(
+                        file: *const u8,
+                        file_length: usize,
+                        $($number: u64,)*
+                        $($read: *const u64, _: usize,)?
+                        $($($written: *mut $unit, _: usize,)*)?
+                        $(out: *mut [u64; $words],)?
+                    ) -> u32;
+                )*
+            }
+        }
+        $(
+            pub fn $name(
+                file: &[u8],
+                $($number: u64,)*
+                $($read: &[u64],)?
+                $($($written: &mut [$unit],)*)?
+                $(out: &mut [u64; $words],)?
+            ) -> u32 {
+                // SAFETY: each slice's pointer is valid for the length behind it, `out` for its words.
+                unsafe {
+                    exported::$name(
+                        file.as_ptr(),
+                        file.len(),
+                        $($number,)*
+                        $($read.as_ptr(), $read.len(),)?
+                        $($($written.as_mut_ptr(), $written.len(),)*)?
+                        $(out as *mut [u64; $words],)?
+                    )
+                }
+            }
+        )*
+    };
+}
+
+functions! {
+    hpcdb_meta_open = "plain_meta_open"() out 16;
+    hpcdb_meta_metric = "plain_meta_metric"(i) out 3;
+    hpcdb_meta_summary = "plain_meta_summary"(i, j, k) out 4;
+    hpcdb_meta_module = "plain_meta_module"(i) out 2;
+    hpcdb_meta_function = "plain_meta_function"(i) out 7;
+    hpcdb_meta_walk = "plain_meta_walk"() writes(listing: u64, table: u64) out 1;
+    hpcdb_meta_records = "plain_meta_records"() writes(listing: u64, table: u64, records: u64) out 1;
+    hpcdb_profile_open = "plain_profile_open"() out 1;
+    hpcdb_profile_lookup = "plain_profile_lookup"(profile, context, metric) writes(value: u8);
+    hpcdb_profile_lookup_many = "plain_profile_lookup_many"(profile) reads(pairs) writes(answers: u64);
+    hpcdb_cct_open = "plain_cct_open"() out 1;
+    hpcdb_cct_lookup = "plain_cct_lookup"(profile, context, metric) writes(value: u8);
+    hpcdb_cct_lookup_many = "plain_cct_lookup_many"(context) reads(pairs) writes(answers: u64);
+    hpcdb_cct_totals = "plain_cct_totals"(context, metric) out 6;
+    hpcdb_trace_open = "plain_trace_open"() out 1;
+    hpcdb_trace_at = "plain_trace_at"(i, time) out 3;
+}
