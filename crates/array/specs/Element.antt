@@ -1,32 +1,22 @@
 -- An array's elements, by position and by place.
 use Prim.Native.Nat.{ℕ, zero, suc, _+_, _*_, _^_, _<_}
-use mathlib.Core.Bool.{Bool, true, false, _||_}
-use mathlib.Core.List.{List, [], _∷_}
+use mathlib.Core.Bool.{Bool, false, _||_}
 use lib.Dec.{ltb, eqb}
 use Rattle.refusal.specs.declared.Refusal.{Refusal}
 use Rattle.refusal.specs.declared.Refusal.the-variants as No
-use Rattle.refusal.specs.Number.{numberOf}
+use Rattle.refusal.specs.Check.{either}
 use Rattle.array.specs.declared.Array.{Array}
 use Rattle.array.specs.declared.Element.{Element}
 use Rattle.array.specs.declared.Element.the-variants.{At, Refused}
 
 -- the place of element i; 15 for a position that is not below the count
-unfoldable pub elementIf : (there : Bool) (place : ℕ) → Element
-elementIf true place = At place
-elementIf false place = Refused No.Index
-
 unfoldable pub elementAt : Array → (i : ℕ) → Element
-elementAt a i = elementIf (ltb i (a .count)) (a .place + i * a .stride)
+elementAt a i = either (ltb i (a .count)) (At (a .place + i * a .stride)) (Refused No.Index)
 
 -- what is answered of an element's place, or the refusal
 unfoldable pub onElement : {A : Type 0} → (Refusal → A) → Element → (ℕ → A) → A
 onElement refused (At place) answer = answer place
 onElement refused (Refused r) answer = refused r
-
--- an answer in words: its number, then the place
-unfoldable pub elementWords : Element → List ℕ
-elementWords (At place) = 0 ∷ place ∷ []
-elementWords (Refused r) = numberOf r ∷ 0 ∷ []
 
 -- a link: there is an index below the count whose element stands at this place
 unfoldable pub linkedBelow : (from stride count place : ℕ) → Bool

@@ -2,8 +2,9 @@
 ghost use mathlib.Core.Path.{_≡_};
 ghost use Prim.Native.Nat.{_+_, _≤_};
 ghost use lib.ListN.{length};
+ghost use Rattle.open.specs.Format.{specsArray, infosArray, namesArray};
 ghost use Rattle.array.specs.Element.{elementAt, linked, Bounded};
-ghost use Rattle.array.specs.Stored.{specsArray, infosArray, namesArray};
+ghost use Rattle.array.specs.Stored.{arrayOf};
 use refusal::Refusal;
 
 // `count` elements, a stride apart from a place on.
@@ -48,7 +49,7 @@ pub fn is_element(a: Array, place: u64) -> bool
 // The arrays of section headers that stand in the file: of modules, files and functions;
 pub fn of_specs(file: &[u8], at: u64) -> Array
     requires { ⌜ at + 14 ≤ length (now file) ⌝ }
-    ensures { λ r. ⌜ r ≡ specsArray (now (file .entry)) at ⌝ }
+    ensures { λ r. ⌜ r ≡ arrayOf (now (file .entry)) at specsArray ⌝ }
 {
     let from = at as usize;
     let place = le::load_u64(file, from);
@@ -64,7 +65,7 @@ pub fn of_specs(file: &[u8], at: u64) -> Array
 // of metrics, profiles, cct entries and traces;
 pub fn of_infos(file: &[u8], at: u64) -> Array
     requires { ⌜ at + 13 ≤ length (now file) ⌝ }
-    ensures { λ r. ⌜ r ≡ infosArray (now (file .entry)) at ⌝ }
+    ensures { λ r. ⌜ r ≡ arrayOf (now (file .entry)) at infosArray ⌝ }
 {
     let from = at as usize;
     let place = le::load_u64(file, from);
@@ -80,7 +81,7 @@ pub fn of_infos(file: &[u8], at: u64) -> Array
 // of the names of identifier kinds.
 pub fn of_names(file: &[u8], at: u64) -> Array
     requires { ⌜ at + 9 ≤ length (now file) ⌝ }
-    ensures { λ r. ⌜ r ≡ namesArray (now (file .entry)) at ⌝ }
+    ensures { λ r. ⌜ r ≡ arrayOf (now (file .entry)) at namesArray ⌝ }
 {
     let from = at as usize;
     let place = le::load_u64(file, from);

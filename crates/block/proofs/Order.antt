@@ -1,22 +1,23 @@
 -- The order rule, what one pass tests, and the rules as facts: all three say the same.
-use Prim.Native.Nat.{ℕ, zero, suc, _+_, _-_, _≤_, _<_}
-use mathlib.Core.Bool.{Bool, true, false, _&&_}
+use Prim.Native.Nat.{ℕ, _+_, _-_, _≤_, _<_}
+use mathlib.Core.Bool.{Bool, true, false}
 use mathlib.Core.List.{List}
 use mathlib.Core.Logic.{_↔_}
-use mathlib.Core.Path.{_≡_, refl, sym, ap, _∙_}
+use mathlib.Core.Path.{_≡_, refl, sym}
 use native.Mathlib.Numerals.{add-one}
 use native.Mathlib.Omega.{arith}
 use borrow.Author.Tests.{le-leb, lt-ltb, le-ltb, leb-true, ltb-true, ltb-false, eq-eqb, eqb-true}
 use lib.Dec.{leb, ltb, eqb}
 use Rattle.range.proofs.Tests.{both}
-use Rattle.seq.specs.Sequence.{every, rises, Sorted}
+use Rattle.refusal.specs.Check.{either}
+use Rattle.seq.specs.Sequence.{every, rises}
 use Rattle.seq.proofs.Every.{every-at, every-of}
 use Rattle.seq.proofs.Rising.{next-sorted, rises-sorted, sorted-rises, all-least}
 use Rattle.block.specs.declared.Shape.{Shape}
 use Rattle.block.specs.declared.Block.{Block}
-use Rattle.block.specs.Block.{startOf, endOr, endOf, outerIds, innerIds, orderRule}
+use Rattle.block.specs.Block.{startOf, endOf, outerIds, innerIds, orderRule}
 use Rattle.block.specs.OnePass.{partRule, onePass}
-use Rattle.block.specs.WellFormed.{WellFormed}
+use Rattle.block.specs.OrderKept.{OrderKept}
 
 same-test : (a b : Bool) → (a ≡ true → b ≡ true) → (b ≡ true → a ≡ true) → a ≡ b
 same-test true b f g = sym (f refl)
@@ -34,16 +35,16 @@ module _ (file : List ℕ) (h : Shape) (b : Block) where
   inner i = rises (h .least) 1 (innerIds file h b i) (end i - start i)
 
   pub inner-end : (i : ℕ) → i + 1 < b .count → end i ≡ start (i + 1)
-  unfolding endOf endOr
+  unfolding endOf either
   inner-end i l = rw (lt-ltb _ _ l)
 
   pub last-end : (i : ℕ) → b .count ≤ i + 1 → end i ≡ b .total
-  unfolding endOf endOr
+  unfolding endOf either
   last-end i l = rw (le-ltb _ _ l)
 
   -- ---- the rule
 
-  pub order-facts : orderRule file h b ≡ true → WellFormed file h b
+  pub order-facts : orderRule file h b ≡ true → OrderKept file h b
   unfolding orderRule
   order-facts e =
       let p = both (eqb (start 0) 0) _ .0 e in
@@ -59,10 +60,10 @@ module _ (file : List ℕ) (h : Shape) (b : Block) where
         inner-least = λ i l. all-least (h .least) (innerIds file h b i) (end i - start i) (every-at inner (b .count) (s .1) i l);
       }
 
-  inner-rises : WellFormed file h b → (i : ℕ) → i < b .count → inner i ≡ true
+  inner-rises : OrderKept file h b → (i : ℕ) → i < b .count → inner i ≡ true
   inner-rises w i l = sorted-rises (h .least) (innerIds file h b i) (end i - start i) (w .inner-increase i l) (w .inner-least i l 0)
 
-  pub facts-order : WellFormed file h b → orderRule file h b ≡ true
+  pub facts-order : OrderKept file h b → orderRule file h b ≡ true
   unfolding orderRule
   facts-order w =
       rw (
@@ -85,7 +86,7 @@ module _ (file : List ℕ) (h : Shape) (b : Block) where
         let s = both (leb (end i) (b .total)) (inner i) .0 (r .1) in
         (ltb-true _ _ (r .0), leb-true _ _ (s .0), s .1)
 
-    pass-facts : WellFormed file h b
+    pass-facts : OrderKept file h b
     unfolding onePass
     pass-facts =
         let p = both (eqb (start 0) 0) _ .0 e in
@@ -100,7 +101,7 @@ module _ (file : List ℕ) (h : Shape) (b : Block) where
           inner-least = λ i l. all-least (h .least) (innerIds file h b i) (end i - start i) (pass-parts i l .2);
         }
 
-  facts-pass : WellFormed file h b → onePass file h b ≡ true
+  facts-pass : OrderKept file h b → onePass file h b ≡ true
   unfolding onePass partRule
   facts-pass w =
       rw (eq-eqb _ _ (w .first-start), sorted-rises 0 (outerIds file h b) (b .count) (w .outer-increase) (λ l. omega arith))
@@ -117,7 +118,7 @@ module _ (file : List ℕ) (h : Shape) (b : Block) where
           let q = ends i l (ltb (i + 1) (b .count)) refl in
           rw (lt-ltb (start i) (end i) (q .0), le-leb (end i) (b .total) (q .1)) (inner-rises w i l)
 
-  pub order-iff : (orderRule file h b ≡ true) ↔ WellFormed file h b
+  pub order-iff : (orderRule file h b ≡ true) ↔ OrderKept file h b
   order-iff = (order-facts, facts-order)
 
   pub pass-is-order : onePass file h b ≡ orderRule file h b

@@ -1,29 +1,33 @@
 -- Sub-arrays of a block: what one pass tests of them, and what a checked block tells of them.
 use Prim.Native.Nat.{ℕ, _+_, _-_, _*_, _≤_, _<_}
-use mathlib.Core.Bool.{Bool, true, false, _&&_}
+use mathlib.Core.Bool.{true, false}
 use mathlib.Core.List.{List}
 use mathlib.Core.Logic.{inl, inr}
-use mathlib.Core.Path.{_≡_, refl, sym, ap, _∙_}
+use mathlib.Core.Path.{_≡_, sym, _∙_}
 use native.Mathlib.Nat.{suc-mul, add-mul, mul-le-mul-right}
 use native.Mathlib.Omega.{arith}
 use borrow.Author.Tests.{le-leb, lt-leb, le-ltb, lt-ltb, eq-eqb, ne-eqb}
-use lib.Dec.{leb, ltb, eqb}
 use lib.ListN.{length}
 use Rattle.seq.specs.Sequence.{every, rises, Sorted}
 use Rattle.seq.specs.declared.Position.{Position}
 use Rattle.seq.specs.declared.Position.the-variants.{At}
 use Rattle.seq.proofs.Search.{position-below}
-use Rattle.seq.proofs.Every.{and-false, every-at, every-not}
+use Rattle.seq.proofs.Every.{and-false, every-not}
 use Rattle.seq.proofs.Rising.{rises-sorted}
 use Rattle.block.specs.declared.Shape.{Shape}
 use Rattle.block.specs.declared.Block.{Block}
-use Rattle.block.specs.Block.{idAt, startOf, endOf, partOf, outerIds, innerIds, orderRule, indexOf, IdWidth, Array, Room, Valid, SubArray}
+use Rattle.block.specs.Block.{idAt, startOf, endOf, partOf, outerIds, orderRule, indexOf}
+use Rattle.block.specs.Sound.{IdWidth, ElementsInside, ArraysInside, SoundBlock, SoundPart}
 use Rattle.block.specs.OnePass.{partRule, onePass}
 use Rattle.block.proofs.Order.{pass-parts, pass-is-order, order-facts}
 
 pub small : {w : ℕ} → IdWidth w → w ≤ 4
 small (inl e) = omega arith
 small (inr e) = omega arith
+
+pub not-two : {w : ℕ} → IdWidth w → (w ≡ 2 → ⊥) → w ≡ 4
+not-two (inl e) n = absurd (n e)
+not-two (inr e) n = e
 
 -- element k of n of z bytes ends where they end at the latest
 pub element-ends : (k n z : ℕ) → k < n → k * z + z ≤ n * z
@@ -34,10 +38,10 @@ span a e n z h l =
     let q : a + (e - a) ≤ n = omega arith in
     rw (← add-mul a (e - a) z) (mul-le-mul-right z q)
 
--- a part of an array is an array
-pub part-array : (file : List ℕ) (at w n start end : ℕ) → Array file at w n → start ≤ end → end ≤ n
-    → Array file (at + start * (w + 8)) w (end - start)
-part-array file at w n start end a l m = record { width = a .width; room = omega (arith, span start end n (w + 8) l m, a .room) }
+-- a part of what is inside is inside
+pub part-inside : (file : List ℕ) (at w n start end : ℕ) → ElementsInside file at w n → start ≤ end → end ≤ n
+    → ElementsInside file (at + start * (w + 8)) w (end - start)
+part-inside file at w n start end a l m = record { width = a .width; ends = omega (arith, span start end n (w + 8) l m, a .ends) }
 
 -- sub-array i, by its start and its end as they were read
 module _ (file : List ℕ) (h : Shape) (b : Block) (i start end : ℕ) (es : start ≡ startOf file h b i) (ee : end ≡ endOf file h b i) where
@@ -80,7 +84,7 @@ pub record Within (file : List ℕ) (h : Shape) (b : Block) (start end : ℕ) : 
   pub ends : end ≤ b .total
   pub sorted : Sorted (idAt (h .inner) file (b .values + start * (h .inner + 8))) (end - start)
 
-module _ {file : List ℕ} {h : Shape} {b : Block} (v : Valid file h b) where
+module _ {file : List ℕ} {h : Shape} {b : Block} (v : SoundBlock file h b) where
   pub outer-sorted : 0 < b .count → Sorted (outerIds file h b) (b .count)
   outer-sorted l = order-facts file h b (v .order l) .outer-increase
 
@@ -96,10 +100,10 @@ module _ {file : List ℕ} {h : Shape} {b : Block} (v : Valid file h b) where
       record { some = rw (es, ee) (p .0); ends = rw ee (p .1); sorted = rw (es, ee) (rises-sorted (h .least) _ _ (p .2)) }
 
 -- by the place and the length that were computed
-pub sub-array : (file : List ℕ) (h : Shape) (b : Block) (place start end : ℕ) → place ≡ b .values + start * (h .inner + 8) → Room file h b
-    → Within file h b start end → SubArray file h (record { place = place; length = end - start })
-sub-array file h b place start end ea m p = record {
-  array = rw ea (part-array file (b .values) (h .inner) (b .total) start end (m .values) (omega (arith, p .some)) (p .ends));
+pub sound-part : (file : List ℕ) (h : Shape) (b : Block) (place start end : ℕ) → place ≡ b .values + start * (h .inner + 8) → ArraysInside file h b
+    → Within file h b start end → SoundPart file h (record { place = place; length = end - start })
+sound-part file h b place start end ea m p = record {
+  elements = rw ea (part-inside file (b .values) (h .inner) (b .total) start end (m .values) (omega (arith, p .some)) (p .ends));
   sorted = rw ea (p .sorted);
   some = omega (arith, p .some);
 }

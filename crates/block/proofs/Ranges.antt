@@ -1,12 +1,11 @@
--- What the range rule gives: room for both arrays; and a block that passed its check is valid.
-use Prim.Native.Nat.{ℕ, _+_, _-_, _*_, _≤_, _<_}
-use mathlib.Core.Bool.{Bool, true, false, _&&_, _||_}
+-- What the range rule gives: both arrays inside the file; and a block that passed its check is sound.
+use Prim.Native.Nat.{ℕ, _+_, _*_, _<_}
+use mathlib.Core.Bool.{true, false, _&&_}
 use mathlib.Core.List.{List}
-use mathlib.Core.Path.{_≡_, refl, sym, ap, _∙_}
+use mathlib.Core.Path.{_≡_, sym, _∙_}
 use native.Mathlib.Omega.{arith}
-use borrow.Author.Tests.{leb-true, eq-eqb, ne-eqb}
-use lib.Dec.{leb, eqb}
-use lib.ListN.{length}
+use borrow.Author.Tests.{eq-eqb, ne-eqb}
+use lib.Dec.{eqb}
 use Rattle.range.specs.Range.{multiple}
 use Rattle.range.proofs.Tests.{both}
 use Rattle.outside.specs.Outside.{lies}
@@ -17,20 +16,21 @@ use Rattle.refusal.specs.Check.{either, rule, first}
 use Rattle.refusal.proofs.Checks.{rule-passes, first-passes}
 use Rattle.block.specs.declared.Shape.{Shape}
 use Rattle.block.specs.declared.Block.{Block}
-use Rattle.block.specs.Block.{rangeRule, orderRule, blockCheck, Widths, Room, Valid}
+use Rattle.block.specs.Block.{rangeRule, orderRule, blockCheck}
+use Rattle.block.specs.Sound.{Widths, ArraysInside, SoundBlock}
 
 module _ (file : List ℕ) (h : Shape) (sections : List (List ℕ)) (b : Block) where
-  pub room-of : rangeRule file h sections b ≡ true → Widths h → 0 < b .count → Room file h b
+  pub arrays-inside : rangeRule file h sections b ≡ true → Widths h → 0 < b .count → ArraysInside file h b
   unfolding rangeRule
-  room-of e w z =
+  arrays-inside e w z =
       let p = both (multiple (b .values) 2 && multiple (b .indices) 4) _ .0 e in
       let q = both
       (lies file (h .header) sections (b .values) (b .total * (h .inner + 8)) && lies file (h .header) sections (b .indices) (b .count * (h .outer + 8)))
       _ .0 (p .1) in
       let r = both (lies file (h .header) sections (b .values) (b .total * (h .inner + 8))) _ .0 (q .0) in
       record {
-        indices = record { width = w .0; room = lies-ends file sections (h .header) (b .indices) (b .count * (h .outer + 8)) (r .1) };
-        values = record { width = w .1; room = lies-ends file sections (h .header) (b .values) (b .total * (h .inner + 8)) (r .0) };
+        indices = record { width = w .0; ends = lies-ends file sections (h .header) (b .indices) (b .count * (h .outer + 8)) (r .1) };
+        values = record { width = w .1; ends = lies-ends file sections (h .header) (b .values) (b .total * (h .inner + 8)) (r .0) };
         some-index = z;
       }
 
@@ -52,9 +52,9 @@ module _ (file : List ℕ) (h : Shape) (sections : List (List ℕ)) (b : Block) 
   unfolding rule first
   order-check z e = sym (some-check z ∙ rw e)
 
-  pub valid : Widths h → blockCheck file h sections b ≡ Check.Passed → Valid file h b
-  valid w e = record {
-    room = λ z. room-of (rule-passes (rangeRule file h sections b) No.Array .0 (passes z .0)) w z;
+  pub sound : Widths h → blockCheck file h sections b ≡ Check.Passed → SoundBlock file h b
+  sound w e = record {
+    inside = λ z. arrays-inside (rule-passes (rangeRule file h sections b) No.Array .0 (passes z .0)) w z;
     order = λ z. rule-passes (orderRule file h b) No.Order .0 (passes z .1);
   }
     where

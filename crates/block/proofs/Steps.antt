@@ -13,7 +13,8 @@ use lib.ListN.{getD}
 use Rattle.le.specs.Number.{number}
 use Rattle.le.proofs.Laws.{number-small}
 use Rattle.range.proofs.Tests.{unless}
-use Rattle.block.specs.Block.{idAt, IdWidth}
+use Rattle.block.specs.Block.{idAt}
+use Rattle.block.specs.Sound.{IdWidth}
 
 -- by whether the id is below the key
 pub quotient-takes : (id key half : ℕ) → id < 4294967296 → key < 4294967296

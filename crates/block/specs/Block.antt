@@ -1,24 +1,20 @@
 -- Sparse blocks: document 01's "Sparse blocks and totals", once over the widths of their ids. An element of either array is an id of
 -- w bytes and then a word of eight: an index has an outer id and a start, a value an inner id and the bits of an f64.
-use Prim.Native.Nat.{ℕ, _+_, _-_, _*_, _≤_, _<_}
-use mathlib.Core.Bool.{Bool, true, false, _&&_}
+use Prim.Native.Nat.{ℕ, _+_, _-_, _*_}
+use mathlib.Core.Bool.{Bool, _&&_}
 use mathlib.Core.List.{List, [], _∷_}
-use mathlib.Core.Logic.{_⊎_}
-use mathlib.Core.Path.{_≡_}
 use lib.Dec.{ltb, leb, eqb}
-use lib.ListN.{length}
 use Rattle.le.specs.Number.{number}
 use Rattle.range.specs.Range.{multiple}
 use Rattle.outside.specs.Outside.{lies}
-use Rattle.refusal.specs.declared.Refusal.{Refusal}
 use Rattle.refusal.specs.declared.Refusal.the-variants as No
 use Rattle.refusal.specs.declared.Check.{Check}
 use Rattle.refusal.specs.Check.{either, rule, first}
-use Rattle.refusal.specs.Number.{numberOf}
+use Rattle.refusal.specs.Words.{refusedWords}
 use Rattle.open.specs.Format.{profile, cct}
 use Rattle.seq.specs.declared.Position.{Position}
 use Rattle.seq.specs.declared.Position.the-variants.{At, Nowhere}
-use Rattle.seq.specs.Sequence.{every, rises, position, Sorted}
+use Rattle.seq.specs.Sequence.{every, rises, position}
 use Rattle.block.specs.declared.Shape.{Shape}
 use Rattle.block.specs.declared.Block.{Block}
 use Rattle.block.specs.declared.Part.{Part}
@@ -66,12 +62,8 @@ module _ (file : List ℕ) (h : Shape) (b : Block) where
   unfoldable pub startOf : (i : ℕ) → ℕ
   startOf i = wordAt (h .outer) file (b .indices) i
 
-  unfoldable pub endOr : Bool → (i : ℕ) → ℕ
-  endOr true i = startOf (i + 1)
-  endOr false i = b .total
-
   unfoldable pub endOf : (i : ℕ) → ℕ
-  endOf i = endOr (ltb (i + 1) (b .count)) i
+  endOf i = either (ltb (i + 1) (b .count)) (startOf (i + 1)) (b .total)
 
   unfoldable pub partOf : (i : ℕ) → ℕ
   partOf i = b .values + startOf i * (h .inner + 8)
@@ -120,36 +112,8 @@ module _ (file : List ℕ) (h : Shape) (b : Block) where
   unfoldable pub lookupIn : (outer inner : ℕ) → Lookup
   lookupIn outer inner = inPart inner (indexOf outer)
 
--- an answer in words: 0 found, 100 absent, or the refusal's number; then the bits
+-- an answer in words: 0 and the bits, or 100 and 0, two words for each pair of a batch; or the refusal's number
 unfoldable pub lookupWords : Lookup → List ℕ
 lookupWords (Found bits) = 0 ∷ bits ∷ []
 lookupWords Absent = 100 ∷ 0 ∷ []
-lookupWords (Refused r) = numberOf r ∷ 0 ∷ []
-
--- ---- what the code below these rules relies on: ids of two or four bytes, and arrays inside the file
-
-abbrev pub IdWidth : ℕ → Type 0
-IdWidth w = (w ≡ 2) ⊎ (w ≡ 4)
-
-abbrev pub Widths : Shape → Type 0
-Widths h = IdWidth (h .outer) × IdWidth (h .inner)
-
-pub record Array (file : List ℕ) (at w n : ℕ) : Type 0 where
-  pub width : IdWidth w
-  pub room : at + n * (w + 8) ≤ length file
-
-pub record Room (file : List ℕ) (h : Shape) (b : Block) : Type 0 where
-  pub indices : Array file (b .indices) (h .outer) (b .count)
-  pub values : Array file (b .values) (h .inner) (b .total)
-  pub some-index : 0 < b .count
-
--- a block that has been checked
-pub record Valid (file : List ℕ) (h : Shape) (b : Block) : Type 0 where
-  pub room : 0 < b .count → Room file h b
-  pub order : 0 < b .count → orderRule file h b ≡ true
-
--- a sub-array of it
-pub record SubArray (file : List ℕ) (h : Shape) (p : Part) : Type 0 where
-  pub array : Array file (p .place) (h .inner) (p .length)
-  pub sorted : Sorted (idAt (h .inner) file (p .place)) (p .length)
-  pub some : 0 < p .length
+lookupWords (Refused r) = refusedWords r

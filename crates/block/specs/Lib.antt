@@ -1,3 +1,4 @@
 pub mod Block
+pub mod OrderKept
 pub mod OnePass
-pub mod WellFormed
+pub mod Sound

@@ -7,7 +7,8 @@ ghost use lib.ListN.{length};
 ghost use Rattle.le.specs.Number.{number};
 ghost use Rattle.seq.specs.declared.Position.the-variants as Position;
 ghost use Rattle.seq.specs.Sequence.{rises, position, Sorted, Window};
-ghost use Rattle.block.specs.Block.{profileShape, cctShape, blockAt, idAt, wordAt, rangeRule, startOf, endOf, orderRule, blockCheck, indexOf, inPart, lookupIn, IdWidth, Widths, Array, Room, Valid, partAt, SubArray};
+ghost use Rattle.block.specs.Block.{profileShape, cctShape, blockAt, idAt, wordAt, rangeRule, startOf, endOf, orderRule, blockCheck, indexOf, inPart, lookupIn, partAt};
+ghost use Rattle.block.specs.Sound.{IdWidth, Widths, ElementsInside, ArraysInside, SoundBlock, SoundPart};
 ghost use Rattle.block.specs.OnePass.{partRule};
 use refusal::Check;
 use refusal::Refusal;
@@ -112,7 +113,7 @@ fn range_rule(file: &[u8], h: Shape, one: [u64; 2], other: [u64; 2], b: Block) -
 
 // The place of element k of an array of n.
 fn element(file: &[u8], at: u64, w: u64, n: u64, k: u64) -> usize
-    requires { ⌜ Array (now file) at w n ⌝ }
+    requires { ⌜ ElementsInside (now file) at w n ⌝ }
     requires { ⌜ k < n ⌝ }
     ensures { λ r. ⌜ r ≡ at + k * (w + 8) ⌝ }
     ensures { λ r. ⌜ r + (w + 8) ≤ length (now (file .entry)) ⌝ }
@@ -122,7 +123,7 @@ fn element(file: &[u8], at: u64, w: u64, n: u64, k: u64) -> usize
 
 // Its id, and its word.
 pub fn id_at(file: &[u8], at: u64, w: u64, n: u64, k: u64) -> u64
-    requires { ⌜ Array (now file) at w n ⌝ }
+    requires { ⌜ ElementsInside (now file) at w n ⌝ }
     requires { ⌜ k < n ⌝ }
     ensures { λ r. ⌜ r ≡ idAt w (now (file .entry)) at k ⌝ }
     ensures { λ r. ⌜ r < 4294967296 ⌝ }
@@ -136,7 +137,7 @@ pub fn id_at(file: &[u8], at: u64, w: u64, n: u64, k: u64) -> u64
 }
 
 pub fn word_at(file: &[u8], at: u64, w: u64, n: u64, k: u64) -> u64
-    requires { ⌜ Array (now file) at w n ⌝ }
+    requires { ⌜ ElementsInside (now file) at w n ⌝ }
     requires { ⌜ k < n ⌝ }
     ensures { λ r. ⌜ r ≡ wordAt w (now (file .entry)) at k ⌝ }
 {
@@ -145,7 +146,7 @@ pub fn word_at(file: &[u8], at: u64, w: u64, n: u64, k: u64) -> u64
 
 // Whether each of the four ids after id k is above the one before it: one branch for the four.
 fn four_rise(file: &[u8], at: u64, w: u64, n: u64, k: u64) -> bool
-    requires { ⌜ Array (now file) at w n ⌝ }
+    requires { ⌜ ElementsInside (now file) at w n ⌝ }
     requires { ⌜ k + 4 < n ⌝ }
     ensures { λ r. ⌜ (r ≡ true → (least : ℕ) → rises least 1 (idAt w (now (file .entry)) at) (k + 1) ≡ true → rises least 1 (idAt w (now (file .entry)) at) (k + 5) ≡ true) ⌝ }
 {
@@ -157,27 +158,27 @@ fn four_rise(file: &[u8], at: u64, w: u64, n: u64, k: u64) -> bool
     ((before < one) & (one < two)) & ((two < three) & (three < four))
 }
 
-// How many of n ids, from the first on, are known to rise, as far as steps of four tell.
+// Id k is the last of n that is known to rise: as far as steps of four tell.
 fn rise_by_fours(file: &[u8], at: u64, w: u64, n: u64, least: u64) -> u64
-    requires { ⌜ Array (now file) at w n ⌝ }
+    requires { ⌜ ElementsInside (now file) at w n ⌝ }
     requires { ⌜ 0 < n ⌝ }
     requires { ⌜ least ≤ idAt w (now file) at 0 ⌝ }
-    ensures { λ r. ⌜ (0 < r) × (r ≤ n) ⌝ }
-    ensures { λ r. ⌜ rises least 1 (idAt w (now (file .entry)) at) r ≡ true ⌝ }
+    ensures { λ r. ⌜ r < n ⌝ }
+    ensures { λ r. ⌜ rises least 1 (idAt w (now (file .entry)) at) (r + 1) ≡ true ⌝ }
 {
     let mut k = 0;
     while 4 < n - k {
         if !four_rise(file, at, w, n, k) {
-            return k + 1;
+            return k;
         }
         k += 4;
     }
-    k + 1
+    k
 }
 
 // Whether n ids are at least `least` and increase.
 fn rise(file: &[u8], at: u64, w: u64, n: u64, least: u64) -> bool
-    requires { ⌜ Array (now file) at w n ⌝ }
+    requires { ⌜ ElementsInside (now file) at w n ⌝ }
     ensures { λ r. ⌜ r ≡ rises least 1 (idAt w (now (file .entry)) at) n ⌝ }
 {
     if n == 0 {
@@ -186,7 +187,7 @@ fn rise(file: &[u8], at: u64, w: u64, n: u64, least: u64) -> bool
     if id_at(file, at, w, n, 0) < least {
         return false;
     }
-    let mut k = rise_by_fours(file, at, w, n, least);
+    let mut k = rise_by_fours(file, at, w, n, least) + 1;
     while k < n {
         if id_at(file, at, w, n, k) <= id_at(file, at, w, n, k - 1) {
             return false;
@@ -198,7 +199,7 @@ fn rise(file: &[u8], at: u64, w: u64, n: u64, least: u64) -> bool
 
 // The same. Each width is a loop of its own, whose stride is a constant.
 fn ids_rise(file: &[u8], at: u64, w: u64, n: u64, least: u64) -> bool
-    requires { ⌜ Array (now file) at w n ⌝ }
+    requires { ⌜ ElementsInside (now file) at w n ⌝ }
     ensures { λ r. ⌜ r ≡ rises least 1 (idAt w (now (file .entry)) at) n ⌝ }
 {
     if w == 2 {
@@ -208,16 +209,16 @@ fn ids_rise(file: &[u8], at: u64, w: u64, n: u64, least: u64) -> bool
 }
 
 // Where sub-array i starts, and where it ends.
-pub fn start_of(file: &[u8], h: Shape, b: Block, i: u64) -> u64
-    requires { ⌜ Room (now file) h b ⌝ }
+fn start_of(file: &[u8], h: Shape, b: Block, i: u64) -> u64
+    requires { ⌜ ArraysInside (now file) h b ⌝ }
     requires { ⌜ i < b .count ⌝ }
     ensures { λ r. ⌜ r ≡ startOf (now (file .entry)) h b i ⌝ }
 {
     word_at(file, b.indices, h.outer, b.count, i)
 }
 
-pub fn end_of(file: &[u8], h: Shape, b: Block, i: u64) -> u64
-    requires { ⌜ Room (now file) h b ⌝ }
+fn end_of(file: &[u8], h: Shape, b: Block, i: u64) -> u64
+    requires { ⌜ ArraysInside (now file) h b ⌝ }
     requires { ⌜ i < b .count ⌝ }
     ensures { λ r. ⌜ r ≡ endOf (now (file .entry)) h b i ⌝ }
 {
@@ -230,7 +231,7 @@ pub fn end_of(file: &[u8], h: Shape, b: Block, i: u64) -> u64
 
 // Whether a sub-array from a start to an end has values, ends within them all, and its ids increase.
 fn part_rule(file: &[u8], h: Shape, b: Block, start: u64, end: u64) -> bool
-    requires { ⌜ Room (now file) h b ⌝ }
+    requires { ⌜ ArraysInside (now file) h b ⌝ }
     ensures { λ r. ⌜ ((i : ℕ) → start ≡ startOf (now (file .entry)) h b i → end ≡ endOf (now (file .entry)) h b i → r ≡ partRule (now (file .entry)) h b i) ⌝ }
 {
     if end <= start {
@@ -245,7 +246,7 @@ fn part_rule(file: &[u8], h: Shape, b: Block, start: u64, end: u64) -> bool
 
 // 11, in one pass. Where one sub-array ends, the next starts.
 fn order_rule(file: &[u8], h: Shape, b: Block) -> bool
-    requires { ⌜ Room (now file) h b ⌝ }
+    requires { ⌜ ArraysInside (now file) h b ⌝ }
     ensures { λ r. ⌜ r ≡ orderRule (now (file .entry)) h b ⌝ }
 {
     if start_of(file, h, b, 0) != 0 {
@@ -296,7 +297,7 @@ fn skipped(id: u64, key: u64, half: u64) -> u64
 
 // Where a key is among n ids: if anywhere, among `count` from a place on, which are halved until one is left.
 fn halve(file: &[u8], at: u64, w: u64, n: u64, key: u64, from: u64, count: u64) -> Position
-    requires { ⌜ Array (now file) at w n ⌝ }
+    requires { ⌜ ElementsInside (now file) at w n ⌝ }
     requires { ⌜ Sorted (idAt w (now file) at) n ⌝ }
     requires { ⌜ key < 4294967296 ⌝ }
     requires { ⌜ Window (idAt w (now file) at) n key from count ⌝ }
@@ -319,7 +320,7 @@ fn halve(file: &[u8], at: u64, w: u64, n: u64, key: u64, from: u64, count: u64) 
 
 // The same. Each width is a loop of its own, whose stride is a constant.
 fn narrow(file: &[u8], at: u64, w: u64, n: u64, key: u64, from: u64, count: u64) -> Position
-    requires { ⌜ Array (now file) at w n ⌝ }
+    requires { ⌜ ElementsInside (now file) at w n ⌝ }
     requires { ⌜ Sorted (idAt w (now file) at) n ⌝ }
     requires { ⌜ key < 4294967296 ⌝ }
     requires { ⌜ Window (idAt w (now file) at) n key from count ⌝ }
@@ -333,7 +334,7 @@ fn narrow(file: &[u8], at: u64, w: u64, n: u64, key: u64, from: u64, count: u64)
 
 // Whether a key is where a hint says.
 fn is_at(file: &[u8], at: u64, w: u64, n: u64, key: u64, hint: u64) -> bool
-    requires { ⌜ Array (now file) at w n ⌝ }
+    requires { ⌜ ElementsInside (now file) at w n ⌝ }
     ensures { λ r. ⌜ (r ≡ true → (hint < n) × (idAt w (now (file .entry)) at hint ≡ key)) ⌝ }
 {
     if n <= hint {
@@ -344,7 +345,7 @@ fn is_at(file: &[u8], at: u64, w: u64, n: u64, key: u64, hint: u64) -> bool
 
 // Whether it is, if anywhere, among the eight ids from there on.
 fn is_near(file: &[u8], at: u64, w: u64, n: u64, key: u64, hint: u64) -> bool
-    requires { ⌜ Array (now file) at w n ⌝ }
+    requires { ⌜ ElementsInside (now file) at w n ⌝ }
     requires { ⌜ Sorted (idAt w (now file) at) n ⌝ }
     ensures { λ r. ⌜ (r ≡ true → (key < 4294967296) × Window (idAt w (now (file .entry)) at) n key hint 8) ⌝ }
 {
@@ -361,7 +362,7 @@ fn is_near(file: &[u8], at: u64, w: u64, n: u64, key: u64, hint: u64) -> bool
 
 // Where a key is among n ids. The hint, where it may be, can be any number, and changes only how long it takes.
 fn search(file: &[u8], at: u64, w: u64, n: u64, key: u64, hint: u64) -> Position
-    requires { ⌜ Array (now file) at w n ⌝ }
+    requires { ⌜ ElementsInside (now file) at w n ⌝ }
     requires { ⌜ Sorted (idAt w (now file) at) n ⌝ }
     ensures { λ r. ⌜ r ≡ position (idAt w (now (file .entry)) at) key n ⌝ }
 {
@@ -379,7 +380,7 @@ fn search(file: &[u8], at: u64, w: u64, n: u64, key: u64, hint: u64) -> Position
 
 // Where the index of an outer id is, with a hint.
 fn index_near(file: &[u8], h: Shape, b: Block, outer: u64, hint: u64) -> Position
-    requires { ⌜ Valid (now file) h b ⌝ }
+    requires { ⌜ SoundBlock (now file) h b ⌝ }
     ensures { λ r. ⌜ r ≡ indexOf (now (file .entry)) h b outer ⌝ }
 {
     if b.count == 0 {
@@ -390,7 +391,7 @@ fn index_near(file: &[u8], h: Shape, b: Block, outer: u64, hint: u64) -> Positio
 
 // The same without one.
 pub fn index_of(file: &[u8], h: Shape, b: Block, outer: u64) -> Position
-    requires { ⌜ Valid (now file) h b ⌝ }
+    requires { ⌜ SoundBlock (now file) h b ⌝ }
     ensures { λ r. ⌜ r ≡ indexOf (now (file .entry)) h b outer ⌝ }
 {
     index_near(file, h, b, outer, NO_HINT)
@@ -398,10 +399,10 @@ pub fn index_of(file: &[u8], h: Shape, b: Block, outer: u64) -> Position
 
 // Sub-array i.
 pub fn part_at(file: &[u8], h: Shape, b: Block, i: u64) -> Part
-    requires { ⌜ Valid (now file) h b ⌝ }
+    requires { ⌜ SoundBlock (now file) h b ⌝ }
     requires { ⌜ i < b .count ⌝ }
     ensures { λ r. ⌜ r ≡ partAt (now (file .entry)) h b i ⌝ }
-    ensures { λ r. ⌜ SubArray (now (file .entry)) h r ⌝ }
+    ensures { λ r. ⌜ SoundPart (now (file .entry)) h r ⌝ }
 {
     let start = start_of(file, h, b, i);
     let length = end_of(file, h, b, i) - start;
@@ -411,7 +412,7 @@ pub fn part_at(file: &[u8], h: Shape, b: Block, i: u64) -> Part
 
 // What sub-array i holds of an inner id. The hint is set to where it was.
 fn find_in(file: &[u8], h: Shape, b: Block, i: u64, inner: u64, hint: &mut u64) -> Lookup
-    requires { ⌜ Valid (now file) h b ⌝ }
+    requires { ⌜ SoundBlock (now file) h b ⌝ }
     requires { ⌜ i < b .count ⌝ }
     ensures { λ r. ⌜ r ≡ inPart (now (file .entry)) h b inner (Position.At i) ⌝ }
 {
@@ -434,7 +435,7 @@ pub fn find_near(
     index: &mut u64,
     value: &mut u64,
 ) -> Lookup
-    requires { ⌜ Valid (now file) h b ⌝ }
+    requires { ⌜ SoundBlock (now file) h b ⌝ }
     ensures { λ r. ⌜ r ≡ lookupIn (now (file .entry)) h b outer inner ⌝ }
 {
     let Position::At(i) = index_near(file, h, b, outer, *index) else {
@@ -449,7 +450,7 @@ pub fn find_near(
 
 // The same of one question alone.
 pub fn find(file: &[u8], h: Shape, b: Block, outer: u64, inner: u64) -> Lookup
-    requires { ⌜ Valid (now file) h b ⌝ }
+    requires { ⌜ SoundBlock (now file) h b ⌝ }
     ensures { λ r. ⌜ r ≡ lookupIn (now (file .entry)) h b outer inner ⌝ }
 {
     let mut index = NO_HINT;

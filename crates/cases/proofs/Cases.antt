@@ -6,17 +6,17 @@ use Rattle.le.specs.Number.{number}
 use Rattle.layout.specs.Bytes.{bytes, fields, join}
 use Rattle.layout.specs.Stands.{starts, stands}
 use Rattle.refusal.specs.Check.{either, rule, first, ifPassed}
-use Rattle.open.specs.Opening.{placeFor, pairAt, pairsFrom, pairs, sectionRule, strideRule, arrayRule, contextsRule, field, numberAt, strideRules, contentRule, headerRule, frontRules, inOrder, sectionCheck, headerCheck, openingWith, opening}
-use Rattle.array.specs.Element.{elementIf, elementAt, onElement, linkedBelow, linked}
+use Rattle.open.specs.Opening.{placeFor, pairAt, pairsFrom, pairs, sectionRule, strideRule, arrayRule, contextsRule, field, numberAt, strideRules, contentRule, headerRule, frontRules, inOrder, sectionCheck, headerCheck, openingWith, opening, onOpened}
+use Rattle.array.specs.Element.{elementAt, onElement, linkedBelow, linked}
 use Rattle.array.specs.Stored.{arrayOf}
 use Rattle.flex.specs.Packing.{bit, oneMore, present, before, words}
-use Rattle.context.specs.Context.{extent, ifPresent, flexAt, contextRule, linkRule, linksRule, childrenRule, pointerCheck, contextCheck, targetsOf}
+use Rattle.context.specs.Context.{extent, flexAt, contextRule, linkRule, linksRule, childrenRule, targetsOf}
 use Rattle.context.specs.Entry.{entryAt}
-use Rattle.traversal.specs.Traversal.{seen, slotCheck, visitCheck, enter, visit, bind, turn, siblings, level, fromRoots, traversal}
+use Rattle.traversal.specs.Traversal.{ask, seen, slotCheck, visitCheck, enter, visit, bind, turn, siblings, level, fromRoots, traversal}
 use Rattle.traversal.specs.Walk.{truncate, walkOf, walkedOf, walkedWords}
-use Rattle.seq.specs.Sequence.{every, floor, rises, hereOr, position}
+use Rattle.seq.specs.Sequence.{every, floor, rises, position}
 use Rattle.outside.specs.Outside.{apart, apartAll, lies}
-use Rattle.block.specs.Block.{blockAt, idAt, wordAt, rangeRule, startOf, endOr, endOf, partOf, partAt, orderRule, blockCheck, valueAt, inPart, indexOf, lookupIn, lookupWords}
+use Rattle.block.specs.Block.{blockAt, idAt, wordAt, rangeRule, startOf, endOf, partOf, partAt, orderRule, blockCheck, valueAt, inPart, indexOf, lookupIn, lookupWords}
 use Rattle.lookup.specs.Lookup.{checkedBlock, checkedAt, onChecked, profileBlock, profileLookup}
 use Rattle.cases.specs.W.{parts, w, built, magic, common}
 use Rattle.cases.specs.B.{three, five, bParts, b}
@@ -24,7 +24,7 @@ use Rattle.cases.specs.Flex.{flexParts, flexFile, aModule, aFile, aFunct
 
 -- a walk's answer in words: 0 whole, 101 cut, or the refusal's number; then the number listed
 abbrev walked : (file : List ℕ) (listing table : ℕ) → List ℕ
-walked file listing table = walkedWords (walkedOf (walkOf file listing table))
+walked file listing table = walkedWords (walkedOf (walkOf (ask file (record { listing = listing; table = table }))))
 
 -- a lookup's: 0 found, 100 absent, or the refusal's number; then the bits
 abbrev looked : (file : List ℕ) (context metric : ℕ) → List ℕ
@@ -62,8 +62,8 @@ pub cases : _≡_ {A = List (List ℕ)}
     ∷ (0 ∷ five ∷ [])
     ∷ (100 ∷ 0 ∷ [])
     ∷ (100 ∷ 0 ∷ [])
-    ∷ (11 ∷ 0 ∷ [])
-    ∷ (11 ∷ 0 ∷ [])
+    ∷ (11 ∷ [])
+    ∷ (11 ∷ [])
     ∷ [])
-unfolding parts w built join fields bytes magic common flexParts flexFile number starts stands rule first ifPassed placeFor pairAt pairsFrom pairs sectionRule strideRule arrayRule contextsRule field numberAt strideRules contentRule headerRule frontRules inOrder sectionCheck headerCheck openingWith opening linkedBelow linked arrayOf bit oneMore present before words extent ifPresent flexAt contextRule linkRule linksRule childrenRule pointerCheck contextCheck targetsOf entryAt seen slotCheck visitCheck enter visit bind turn siblings level fromRoots traversal either truncate walkOf walkedOf walkedWords bParts b elementIf elementAt onElement every floor rises hereOr position blockAt idAt wordAt apart apartAll lies rangeRule startOf endOr endOf partOf partAt orderRule blockCheck valueAt inPart indexOf lookupIn lookupWords checkedBlock checkedAt onChecked profileBlock profileLookup
+unfolding parts w built join fields bytes magic common flexParts flexFile number starts stands rule first ifPassed placeFor pairAt pairsFrom pairs sectionRule strideRule arrayRule contextsRule field numberAt strideRules contentRule headerRule frontRules inOrder sectionCheck headerCheck openingWith opening onOpened linkedBelow linked arrayOf bit oneMore present before words extent flexAt contextRule linkRule linksRule childrenRule targetsOf entryAt seen slotCheck visitCheck enter visit bind turn siblings level fromRoots traversal either truncate walkOf walkedOf walkedWords bParts b elementAt onElement every floor rises position blockAt idAt wordAt apart apartAll lies rangeRule startOf endOf partOf partAt orderRule blockCheck valueAt inPart indexOf lookupIn lookupWords checkedBlock checkedAt onChecked profileBlock profileLookup
 cases = refl

@@ -9,7 +9,7 @@ use Rattle.layout.specs.Stands.{starts, stands}
 use Rattle.refusal.specs.declared.Check.the-variants.{Passed}
 use Rattle.refusal.specs.Check.{rule, first, ifPassed}
 use Rattle.open.specs.Format.{meta}
-use Rattle.open.specs.Opening.{placeFor, pairAt, pairsFrom, pairs, sectionRule, strideRule, arrayRule, contextsRule, field, numberAt, strideRules, contentRule, headerRule, frontRules, inOrder, sectionCheck, headerCheck, openingWith, opening, opened}
+use Rattle.open.specs.Opening.{placeFor, pairAt, pairsFrom, pairs, sectionRule, strideRule, arrayRule, contextsRule, field, numberAt, strideRules, contentRule, headerRule, frontRules, inOrder, sectionCheck, headerCheck, openingWith, opening, onOpened, opened}
 use Rattle.cases.specs.W.{parts, w, built, magic, common, placesFrom}
 use Rattle.cases.specs.Flex.{flexParts, aModule, aFile, aFunction}
 use Rattle.cases.specs.B.{bParts}
@@ -24,5 +24,5 @@ unfolding parts w built join fields bytes magic common flexParts bParts
 placed = (refl, refl, refl, refl, refl)
 
 pub opens : (opening meta w ≡ Passed) × (opened meta w ≡ w-sections)
-unfolding parts w built join fields bytes magic common w-sections number starts stands rule first placeFor pairAt pairsFrom pairs sectionRule strideRule arrayRule contextsRule field numberAt strideRules contentRule headerRule frontRules inOrder sectionCheck headerCheck openingWith opening ifPassed opened
+unfolding parts w built join fields bytes magic common w-sections number starts stands rule first placeFor pairAt pairsFrom pairs sectionRule strideRule arrayRule contextsRule field numberAt strideRules contentRule headerRule frontRules inOrder sectionCheck headerCheck openingWith opening ifPassed onOpened opened
 opens = (refl, refl)

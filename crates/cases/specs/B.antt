@@ -1,7 +1,7 @@
 -- Block B of document 01 in a profile.db of one profile, with the starts of its two sub-arrays.
 use Prim.Native.Nat.{ℕ}
 use mathlib.Core.List.{List, [], _∷_, _++_}
-use Rattle.layout.specs.Bytes.{ascii, bytes, _is_, fields, join}
+use Rattle.layout.specs.Bytes.{ascii, bytes, _is_, fields}
 use Rattle.cases.specs.W.{entry, padding, built}
 
 -- the bits of 2.0, 3.0 and 5.0

@@ -2,7 +2,6 @@
 -- places from the parts' lengths.
 use Prim.Native.Nat.{ℕ, _+_}
 use mathlib.Core.List.{List, [], _∷_, _++_, map}
-use mathlib.Core.Path.{_≡_, refl}
 use lib.ListN.{length, replicate}
 use Rattle.layout.specs.Bytes.{ascii, bytes, _is_, fields, join}
 

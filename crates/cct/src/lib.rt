@@ -1,6 +1,6 @@
 // Totals over one context and metric of cct.db.
 ghost use mathlib.Core.Path.{_≡_};
-ghost use Rattle.block.specs.Block.{Valid, SubArray};
+ghost use Rattle.block.specs.Sound.{SoundBlock, SoundPart};
 ghost use Rattle.cct.specs.Totals.{partTotals, totalsIn, cctTotals};
 use block::Block;
 use block::Part;
@@ -11,8 +11,8 @@ use seq::Position;
 use total::Totals;
 
 // Of the values of a sub-array, in stored order. An id is read only for a new least or greatest.
-pub fn part_totals(file: &[u8], h: Shape, p: Part) -> Totals
-    requires { ⌜ SubArray (now file) h p ⌝ }
+fn part_totals(file: &[u8], h: Shape, p: Part) -> Totals
+    requires { ⌜ SoundPart (now file) h p ⌝ }
     ensures { λ r. ⌜ r ≡ partTotals (now (file .entry)) h p ⌝ }
 {
     let first = block::word_at(file, p.place, h.inner, p.length, 0);
@@ -45,8 +45,8 @@ pub fn part_totals(file: &[u8], h: Shape, p: Part) -> Totals
 }
 
 // Of an outer id of a checked block.
-pub fn totals_in(file: &[u8], h: Shape, b: Block, outer: u64) -> Totals
-    requires { ⌜ Valid (now file) h b ⌝ }
+fn totals_in(file: &[u8], h: Shape, b: Block, outer: u64) -> Totals
+    requires { ⌜ SoundBlock (now file) h b ⌝ }
     ensures { λ r. ⌜ r ≡ totalsIn (now (file .entry)) h b outer ⌝ }
 {
     let Position::At(i) = block::index_of(file, h, b, outer) else {

@@ -1,5 +1,5 @@
 -- Bounds of a context's fields, and its rules as tests of differences.
-use Prim.Native.Nat.{ℕ, _+_, _-_, _*_, _≤_, _<_}
+use Prim.Native.Nat.{ℕ, _+_, _-_, _≤_, _<_}
 use mathlib.Core.Bool.{Bool, true, false, _&&_}
 use mathlib.Core.List.{List}
 use mathlib.Core.Path.{_≡_, refl, sym, _∙_}
@@ -11,12 +11,13 @@ use Rattle.open.specs.Opening.{field}
 use Rattle.range.proofs.Tests.{both}
 use Rattle.flex.specs.Packing.{packing, bit, before, words}
 use Rattle.flex.proofs.Count.{inside}
-use Rattle.context.specs.Context.{flags, flexWords, extent, contextRule, Readable}
+use Rattle.context.specs.Context.{flags, flexWords, extent, contextRule}
+use Rattle.context.specs.Sound.{Readable}
 
 -- a present field ends inside what its flags need
-pub field-inside : (kind j b : ℕ) (present : Bool) → j < 5 → present ≡ bit kind (getD packing j 0) → present ≡ true → b ≡ before kind j
-    → b < words kind
-field-inside kind j b present h e t k = omega (arith, inside kind j h (sym e ∙ t))
+pub field-inside : (bits j b : ℕ) (present : Bool) → j < 5 → present ≡ bit bits (getD packing j 0) → present ≡ true → b ≡ before bits j
+    → b < words bits
+field-inside bits j b present h e t k = omega (arith, inside bits j h (sym e ∙ t))
 
 leb-shift : (a b c : ℕ) → a ≤ c → leb b (c - a) ≡ leb (a + b) c
 leb-shift a b c h = go (leb b (c - a)) refl

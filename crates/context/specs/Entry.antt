@@ -1,7 +1,6 @@
 -- What is known of a context that a traversal visits.
 use Prim.Native.Nat.{ℕ, _%_}
 use mathlib.Core.List.{List, [], _∷_}
-use mathlib.Core.Path.{_≡_}
 use lib.ListN.{length}
 use Rattle.open.specs.Opening.{field}
 use Rattle.context.specs.Context.{ctxId, flags, relation, lexicalType, flexAt}
@@ -49,7 +48,3 @@ entryWords e =
 -- how many they are
 abbrev pub wordsEach : ℕ
 wordsEach = 11
-
--- words that are those of the context at p, wherever at this depth it stands
-abbrev pub WordsOf : List ℕ → (p depth : ℕ) → List ℕ → Type 0
-WordsOf f p depth ws = (parent : ℕ) (path : List ℕ) → length path ≡ depth → ws ≡ entryWords (entryAt f parent path p)

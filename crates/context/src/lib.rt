@@ -3,30 +3,54 @@ ghost use mathlib.Core.Path.{_≡_};
 ghost use Prim.Native.Nat.{_+_, _*_, _≤_, _<_};
 ghost use lib.ListN.{length, getD};
 ghost use Rattle.le.specs.Number.{number};
+ghost use Rattle.refusal.specs.Check.{either};
 ghost use Rattle.open.specs.Format.{meta};
 ghost use Rattle.open.specs.Kept.{Sections};
 ghost use Rattle.flex.specs.Packing.{packing, bit, place, words};
-ghost use Rattle.context.specs.Context.{extent, ifPresent, contextRule, linkRule, linksRule, pointerCheck, targetsOf, targetsIn, Readable};
-ghost use Rattle.context.specs.Entry.{WordsOf};
+ghost use Rattle.context.specs.Context.{extent, contextRule, linkRule, linksRule, childrenRule, targetsOf};
+ghost use Rattle.context.specs.Sound.{arrayInWords, targetsIn, Readable, WordsOf};
 use array::Array;
-use refusal::Check;
-use refusal::Refusal;
+
+// Offsets of a context's fields behind the size and place of its children, and the bytes before its flex words.
+pub const CTX_ID: usize = 16;
+
+const FLAGS: usize = 20;
+
+const RELATION: usize = 21;
+
+const LEXICAL_TYPE: usize = 22;
+
+const FLEX_WORDS: usize = 23;
+
+const FLEX: usize = 24;
 
 // How many words a record has.
 pub const RECORD: usize = 11;
 
-// What the pointers of contexts may lead to, in words: place and size of the Context section; place, count and stride of the
+// What the pointers of contexts may lead to, in words: place and size of the Context section; then place, count and stride of the
 // functions, files and modules.
-pub fn targets_of(file: &[u8], sections: [[u64; 2]; 8]) -> [u64; 11]
-    requires { ⌜ Sections meta (now file) sections ⌝ }
-    ensures { λ r. ⌜ targetsIn r ≡ targetsOf (now (file .entry)) sections ⌝ }
+pub const TARGETS: usize = 11;
+
+const SECTION: usize = 0;
+
+const SECTION_SIZE: usize = 1;
+
+const FUNCTIONS: usize = 2;
+
+const FILES: usize = 5;
+
+const MODULES: usize = 8;
+
+pub fn targets_of(file: &[u8], sections: &[[u64; 2]; 8]) -> [u64; TARGETS]
+    requires { ⌜ Sections meta (now file) (now sections) ⌝ }
+    ensures { λ r. ⌜ targetsIn r ≡ targetsOf (now (file .entry)) (now (sections .entry)) ⌝ }
 {
-    let functions = array::of_specs(file, sections[7][0]);
-    let files = array::of_specs(file, sections[6][0]);
-    let modules = array::of_specs(file, sections[5][0]);
+    let functions = array::of_specs(file, sections[open::FUNCTIONS][0]);
+    let files = array::of_specs(file, sections[open::FILES][0]);
+    let modules = array::of_specs(file, sections[open::MODULES][0]);
     [
-        sections[3][0],
-        sections[3][1],
+        sections[open::CONTEXT][0],
+        sections[open::CONTEXT][1],
         functions.place,
         functions.count,
         functions.stride,
@@ -39,12 +63,24 @@ pub fn targets_of(file: &[u8], sections: [[u64; 2]; 8]) -> [u64; 11]
     ]
 }
 
+// The array in the words from k on.
+fn array_in(targets: &[u64; TARGETS], k: usize) -> Array
+    requires { ⌜ k ≤ 8 ⌝ }
+    ensures { λ r. ⌜ r ≡ arrayInWords (now (targets .entry)) k ⌝ }
+{
+    Array {
+        place: targets[k],
+        count: targets[k + 1],
+        stride: targets[k + 2],
+    }
+}
+
 // The bytes that a context takes.
 pub fn extent(file: &[u8], p: usize) -> usize
     requires { ⌜ p + 24 ≤ length (now file) ⌝ }
     ensures { λ r. ⌜ r ≡ extent (now (file .entry)) p ⌝ }
 {
-    24 + 8 * (le::load_u8(file, p + 23) as usize)
+    FLEX + 8 * (le::load_u8(file, p + FLEX_WORDS) as usize)
 }
 
 // 10, of the context at `p` in an array that ends at `stop`.
@@ -52,33 +88,33 @@ pub fn context_rule(file: &[u8], p: usize, stop: usize) -> bool
     requires { ⌜ (p ≤ stop) × (stop ≤ length (now file)) ⌝ }
     ensures { λ r. ⌜ r ≡ contextRule (now (file .entry)) p stop ⌝ }
 {
-    if stop - p < 24 {
+    if stop - p < FLEX {
         return false;
     }
-    let needed = flex::words(le::load_u8(file, p + 20));
-    let words = le::load_u8(file, p + 23) as u64;
-    (extent(file, p) <= stop - p) & (needed <= words)
+    let needed = flex::words(le::load_u8(file, p + FLAGS));
+    let held = le::load_u8(file, p + FLEX_WORDS) as u64;
+    (extent(file, p) <= stop - p) & (needed <= held)
 }
 
 // Flex field j, eight bytes wide; 0 where it is not present.
-fn flex_word(file: &[u8], p: usize, kind: u8, present: bool, j: u64) -> u64
-    requires { ⌜ p + 24 + 8 * words kind ≤ length (now file) ⌝ }
-    requires { ⌜ (j < 5) × (present ≡ bit kind (getD packing j 0)) ⌝ }
-    ensures { λ r. ⌜ r ≡ ifPresent present (number 8 (now (file .entry)) (p + 24 + place kind j)) ⌝ }
+fn flex_word(file: &[u8], p: usize, flags: u8, present: bool, j: u64) -> u64
+    requires { ⌜ p + 24 + 8 * words flags ≤ length (now file) ⌝ }
+    requires { ⌜ (j < 5) × (present ≡ bit flags (getD packing j 0)) ⌝ }
+    ensures { λ r. ⌜ r ≡ either present (number 8 (now (file .entry)) (p + 24 + place flags j)) 0 ⌝ }
 {
     if present {
-        return le::load_u64(file, p + 24 + 8 * (flex::before(kind, j) as usize));
+        return le::load_u64(file, p + FLEX + 8 * (flex::before(flags, j) as usize));
     }
     0
 }
 
 // The line, four bytes wide.
-fn line(file: &[u8], p: usize, kind: u8) -> u64
-    requires { ⌜ p + 24 + 8 * words kind ≤ length (now file) ⌝ }
-    ensures { λ r. ⌜ r ≡ ifPresent (bit kind 1) (number 4 (now (file .entry)) (p + 24 + place kind 2)) ⌝ }
+fn line(file: &[u8], p: usize, flags: u8) -> u64
+    requires { ⌜ p + 24 + 8 * words flags ≤ length (now file) ⌝ }
+    ensures { λ r. ⌜ r ≡ either (bit flags 1) (number 4 (now (file .entry)) (p + 24 + place flags 2)) 0 ⌝ }
 {
-    if flex::has_source(kind) {
-        return le::load_u32(file, p + 24 + 8 * (flex::before(kind, 2) as usize)) as u64;
+    if flex::has_source(flags) {
+        return le::load_u32(file, p + FLEX + 8 * (flex::before(flags, 2) as usize)) as u64;
     }
     0
 }
@@ -94,51 +130,30 @@ fn link_rule(present: bool, a: Array, link: u64) -> bool
 }
 
 // 9.
-fn links_rule(file: &[u8], t: &[u64; 11], p: usize) -> bool
+pub fn links_rule(file: &[u8], targets: &[u64; TARGETS], p: usize) -> bool
     requires { ⌜ Readable (now file) p ⌝ }
-    ensures { λ r. ⌜ r ≡ linksRule (targetsIn (now (t .entry))) (now (file .entry)) p ⌝ }
+    ensures { λ r. ⌜ r ≡ linksRule (targetsIn (now (targets .entry))) (now (file .entry)) p ⌝ }
 {
-    let kind = le::load_u8(file, p + 20);
-    let functions = Array {
-        place: t[2],
-        count: t[3],
-        stride: t[4],
-    };
-    let files = Array {
-        place: t[5],
-        count: t[6],
-        stride: t[7],
-    };
-    let modules = Array {
-        place: t[8],
-        count: t[9],
-        stride: t[10],
-    };
-    let has_function = flex::has_function(kind);
-    let has_source = flex::has_source(kind);
-    let has_point = flex::has_point(kind);
-    link_rule(
-        has_function,
-        functions,
-        flex_word(file, p, kind, has_function, 0),
-    )
-        & (link_rule(has_source, files, flex_word(file, p, kind, has_source, 1))
-            & link_rule(has_point, modules, flex_word(file, p, kind, has_point, 3)))
+    let flags = le::load_u8(file, p + FLAGS);
+    let has_function = flex::has_function(flags);
+    let has_source = flex::has_source(flags);
+    let has_point = flex::has_point(flags);
+    let function = flex_word(file, p, flags, has_function, 0);
+    let source = flex_word(file, p, flags, has_source, 1);
+    let load_module = flex_word(file, p, flags, has_point, 3);
+    link_rule(has_function, array_in(targets, FUNCTIONS), function)
+        & (link_rule(has_source, array_in(targets, FILES), source)
+            & link_rule(has_point, array_in(targets, MODULES), load_module))
 }
 
-// 9, and then 7.
-pub fn pointer_check(file: &[u8], t: &[u64; 11], p: usize) -> Check
+// 7.
+pub fn children_rule(file: &[u8], targets: &[u64; TARGETS], p: usize) -> bool
     requires { ⌜ Readable (now file) p ⌝ }
-    ensures { λ r. ⌜ r ≡ pointerCheck (targetsIn (now (t .entry))) (now (file .entry)) p ⌝ }
+    ensures { λ r. ⌜ r ≡ childrenRule (targetsIn (now (targets .entry))) (now (file .entry)) p ⌝ }
 {
-    let links = links_rule(file, t, p);
     let bytes = le::load_u64(file, p);
     let place = le::load_u64(file, p + 8);
-    let children = open::contexts_rule(t[0], 16, t[1], place, bytes);
-    refusal::first(
-        refusal::rule(links, Refusal::Link),
-        refusal::rule(children, Refusal::Array),
-    )
+    open::contexts_rule(targets[SECTION], 16, targets[SECTION_SIZE], place, bytes)
 }
 
 // What is handed out of a context, with its depth.
@@ -146,28 +161,28 @@ pub fn entry_words(file: &[u8], p: usize, depth: u64) -> [u64; RECORD]
     requires { ⌜ Readable (now file) p ⌝ }
     ensures { λ r. ⌜ WordsOf (now (file .entry)) p depth r ⌝ }
 {
-    let kind = le::load_u8(file, p + 20);
-    let has_source = flex::has_source(kind);
-    let has_point = flex::has_point(kind);
-    let function = flex_word(file, p, kind, flex::has_function(kind), 0);
-    let source = flex_word(file, p, kind, has_source, 1);
-    let line = line(file, p, kind);
-    let image = flex_word(file, p, kind, has_point, 3);
-    let offset = flex_word(file, p, kind, has_point, 4);
-    let id = le::load_u32(file, p + 16) as u64;
-    let relation = le::load_u8(file, p + 21) as u64;
-    let kind_of_scope = le::load_u8(file, p + 22) as u64;
+    let flags = le::load_u8(file, p + FLAGS);
+    let has_source = flex::has_source(flags);
+    let has_point = flex::has_point(flags);
+    let function = flex_word(file, p, flags, flex::has_function(flags), 0);
+    let source = flex_word(file, p, flags, has_source, 1);
+    let line = line(file, p, flags);
+    let load_module = flex_word(file, p, flags, has_point, 3);
+    let offset = flex_word(file, p, flags, has_point, 4);
+    let ctx_id = le::load_u32(file, p + CTX_ID) as u64;
+    let relation = le::load_u8(file, p + RELATION) as u64;
+    let lexical_type = le::load_u8(file, p + LEXICAL_TYPE) as u64;
     [
         p as u64,
         depth,
-        id,
+        ctx_id,
         relation,
-        kind_of_scope,
-        (kind % 8) as u64,
+        lexical_type,
+        (flags % 8) as u64,
         function,
         source,
         line,
-        image,
+        load_module,
         offset,
     ]
 }

@@ -2,9 +2,10 @@
 ghost use mathlib.Core.Path.{_≡_};
 ghost use Prim.Native.Nat.{_+_, _≤_};
 ghost use lib.ListN.{length};
-ghost use Rattle.open.specs.Format.{profile, cct, trace};
-ghost use Rattle.array.specs.Stored.{infosArray};
+ghost use Rattle.open.specs.Format.{profile, cct, trace, infosArray};
+ghost use Rattle.array.specs.Stored.{arrayOf};
 ghost use Rattle.count.specs.Count.{countOf};
+use open::INFOS;
 use refusal::Check;
 
 pub enum Count {
@@ -15,7 +16,7 @@ pub enum Count {
 // Elements of the array whose section header stands at a place.
 fn elements(file: &[u8], at: u64) -> u64
     requires { ⌜ at + 13 ≤ length (now file) ⌝ }
-    ensures { λ r. ⌜ r ≡ infosArray (now (file .entry)) at .count ⌝ }
+    ensures { λ r. ⌜ r ≡ arrayOf (now (file .entry)) at infosArray .count ⌝ }
 {
     le::load_u32(file, at as usize + 8) as u64
 }
@@ -27,7 +28,7 @@ pub fn profiles(file: &[u8]) -> Count
     let sections = open::profile_sections(file);
     let check = open::check_profile(file, sections);
     match check {
-        Check::Passed => Count::Of(elements(file, sections[0][0])),
+        Check::Passed => Count::Of(elements(file, sections[INFOS][0])),
         Check::Refused(r) => Count::Refused(r),
     }
 }
@@ -39,7 +40,7 @@ pub fn contexts(file: &[u8]) -> Count
     let sections = open::single_section(file);
     let check = open::check_cct(file, sections);
     match check {
-        Check::Passed => Count::Of(elements(file, sections[0][0])),
+        Check::Passed => Count::Of(elements(file, sections[INFOS][0])),
         Check::Refused(r) => Count::Refused(r),
     }
 }
@@ -51,7 +52,7 @@ pub fn lines(file: &[u8]) -> Count
     let sections = open::single_section(file);
     let check = open::check_trace(file, sections);
     match check {
-        Check::Passed => Count::Of(elements(file, sections[0][0])),
+        Check::Passed => Count::Of(elements(file, sections[INFOS][0])),
         Check::Refused(r) => Count::Refused(r),
     }
 }

@@ -5,6 +5,10 @@ ghost use Rattle.open.specs.Kept.{Sections};
 ghost use Rattle.function.specs.Function.{linksKept, nameText, functionOf, functionIn, functionAt, nameBytes, nameWhich};
 use array::Array;
 use array::Element;
+use open::FILES;
+use open::FUNCTIONS;
+use open::MODULES;
+use open::STRINGS;
 use refusal::Check;
 use refusal::Refusal;
 use text::Text;
@@ -22,17 +26,17 @@ pub enum Function {
     Refused(refusal::Refusal),
 }
 
-// 9. `image` is the link to the load module.
-fn links_kept(modules: Array, files: Array, name: u64, image: u64, source: u64) -> bool
-    ensures { λ r. ⌜ r ≡ linksKept modules files name image source ⌝ }
+// 9, of the links.
+fn links_kept(modules: Array, files: Array, name: u64, module_link: u64, file_link: u64) -> bool
+    ensures { λ r. ⌜ r ≡ linksKept modules files name «module_link» «file_link» ⌝ }
 {
-    let none = (name == 0) & ((image == 0) & (source == 0));
-    let image_kept = (image == 0) | array::is_element(modules, image);
-    let source_kept = (source == 0) | array::is_element(files, source);
-    !none & (image_kept & source_kept)
+    let none = (name == 0) & ((module_link == 0) & (file_link == 0));
+    let module_kept = (module_link == 0) | array::is_element(modules, module_link);
+    let file_kept = (file_link == 0) | array::is_element(files, file_link);
+    !none & (module_kept & file_kept)
 }
 
-// 8.
+// 8, of a name that is there.
 fn name_text(file: &[u8], strings: [u64; 2], name: u64) -> Text
     ensures { λ r. ⌜ r ≡ nameText (now (file .entry)) strings name ⌝ }
 {
@@ -50,18 +54,18 @@ fn function_of(file: &[u8], strings: [u64; 2], modules: Array, files: Array, at:
     ensures { λ r. ⌜ r ≡ functionOf (now (file .entry)) strings modules files at ⌝ }
 {
     let name = le::u64_at(file, at, 0);
-    let image = le::u64_at(file, at, 8);
+    let module_link = le::u64_at(file, at, 8);
     let offset = le::u64_at(file, at, 16);
-    let source = le::u64_at(file, at, 24);
+    let file_link = le::u64_at(file, at, 24);
     let line = le::u32_at(file, at, 32) as u64;
-    if links_kept(modules, files, name, image, source) {
+    if links_kept(modules, files, name, module_link, file_link) {
         match name_text(file, strings, name) {
             Text::At { place, length } => Function::Found {
                 name: place,
                 length,
-                module: image,
+                module: module_link,
                 offset,
-                file: source,
+                file: file_link,
                 line,
             },
             Text::Refused(r) => Function::Refused(r),
@@ -71,15 +75,15 @@ fn function_of(file: &[u8], strings: [u64; 2], modules: Array, files: Array, at:
     }
 }
 
-fn function_in(file: &[u8], sections: [[u64; 2]; 8], i: u64) -> Function
-    requires { ⌜ Sections meta (now file) sections ⌝ }
-    ensures { λ r. ⌜ r ≡ functionIn (now (file .entry)) sections i ⌝ }
+fn function_in(file: &[u8], sections: &[[u64; 2]; 8], i: u64) -> Function
+    requires { ⌜ Sections meta (now file) (now sections) ⌝ }
+    ensures { λ r. ⌜ r ≡ functionIn (now (file .entry)) (now (sections .entry)) i ⌝ }
 {
-    let modules = array::of_specs(file, sections[5][0]);
-    let files = array::of_specs(file, sections[6][0]);
-    let functions = array::of_specs(file, sections[7][0]);
+    let modules = array::of_specs(file, sections[MODULES][0]);
+    let files = array::of_specs(file, sections[FILES][0]);
+    let functions = array::of_specs(file, sections[FUNCTIONS][0]);
     match array::nth(functions, i) {
-        Element::At(at) => function_of(file, sections[4], modules, files, at),
+        Element::At(at) => function_of(file, sections[STRINGS], modules, files, at),
         Element::Refused(r) => Function::Refused(r),
     }
 }
@@ -90,14 +94,14 @@ pub fn function_at(file: &[u8], i: u64) -> Function
     let sections = open::meta_sections(file);
     let check = open::check_meta(file, &sections);
     match check {
-        Check::Passed => function_in(file, sections, i),
+        Check::Passed => function_in(file, &sections, i),
         Check::Refused(r) => Function::Refused(r),
     }
 }
 
 // The name of an answer, from one of two slices: 0 in `which` for a part of the file, 100 for the placeholder, whole, where there is
 // no name; else the refusal's number, and no bytes.
-pub fn name_bytes<'a>(
+fn name_bytes<'a>(
     file: &'a [u8],
     placeholder: &'a [u8],
     answer: Function,

@@ -1,20 +1,18 @@
 -- A value by whether there is room for it; sections and counts by whether the file opens.
 use Prim.Native.Nat.{ℕ, _≤_, _<_}
 use mathlib.Core.List.{List, [], _∷_}
-use mathlib.Core.Path.{_≡_, refl, sym}
+use mathlib.Core.Path.{_≡_, refl}
 use native.Mathlib.Omega.{arith}
 use borrow.Author.Tests.{le-leb, lt-leb}
-use lib.Dec.{leb}
 use lib.ListN.{length}
-use Rattle.refusal.specs.declared.Refusal.the-variants as No
 use Rattle.refusal.specs.Check.{either, codeOf, ifPassed}
-use Rattle.refusal.specs.Number.{numberOf}
+use Rattle.refusal.specs.Words.{codeIn}
 use Rattle.refusal.specs.declared.Check.{Check}
 use Rattle.refusal.specs.declared.Check.the-variants.{Passed, Refused}
 use Rattle.open.specs.Format.{meta}
-use Rattle.open.specs.Opening.{opening, pairAt, pairsFrom, pairs, placeIn, sizeIn}
+use Rattle.open.specs.Opening.{opening, pairAt, pairsFrom, pairs, placeIn, sizeIn, onOpened}
 use Rattle.meta.specs.Names.{counts}
-use Rattle.words.specs.Convention.{codeIn, wordsIn, flat, openWords, countsWords}
+use Rattle.words.specs.Convention.{wordsIn, flat, countsWords}
 use Rattle.words.proofs.Laws.{small, positive, refused}
 use Rattle.block.specs.Block.{lookupWords}
 use Rattle.block.specs.declared.Lookup.{Lookup}
@@ -23,12 +21,12 @@ use Rattle.hpcdb.specs.Value.{valueIn, valueCode, valueBytes}
 module _ (out : List ℕ) (answer : Lookup) where
   pub no-room : length out < 8 → (17 ≡ valueCode out answer) × (out ≡ valueBytes out answer)
   unfolding valueCode valueBytes either
-  no-room h = (rw (lt-leb 8 (length out) h), rw (lt-leb 8 (length out) h))
+  no-room h = rw (lt-leb 8 (length out) h) (refl, refl)
 
-  pub room : 8 ≤ length out → (code : ℕ) (now : List ℕ) → code ≡ codeIn (lookupWords answer) → now ≡ valueIn out answer
-      → (code ≡ valueCode out answer) × (now ≡ valueBytes out answer)
+  pub room : 8 ≤ length out → {code : ℕ} {after : List ℕ} → (code ≡ codeIn (lookupWords answer)) × (after ≡ valueIn out answer)
+      → (code ≡ valueCode out answer) × (after ≡ valueBytes out answer)
   unfolding valueCode valueBytes either
-  room h code now e f = (rw (le-leb 8 (length out) h) e, rw (le-leb 8 (length out) h) f)
+  room h e = rw (le-leb 8 (length out) h) e
 
 -- every check's number is small
 pub code-small : (c : Check) → codeOf c ≤ 17
@@ -47,7 +45,7 @@ module _ (file : List ℕ) where
   -- the counts, by the number
   counts-by : (c : Check) → opening meta file ≡ c → {n : ℕ} → n ≡ codeOf c → (n ≡ 0 → countsWords file ≡ 0 ∷ counts file)
       × ((n ≡ 0 → ⊥) → (was : List ℕ) → (n ≡ codeIn (countsWords file)) × (was ≡ wordsIn was (countsWords file)))
-  unfolding codeOf openWords counts ifPassed
+  unfolding codeOf onOpened counts ifPassed
   counts-by Passed e f = (λ z. rw e, λ z. absurd (z f))
   counts-by (Refused r) e f = (λ z. absurd (omega (arith, positive r)), λ z was. refused was r [] (rw e) f)
 

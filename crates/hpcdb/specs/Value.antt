@@ -9,7 +9,7 @@ use Rattle.refusal.specs.Number.{numberOf}
 use Rattle.layout.specs.Bytes.{bytes}
 use Rattle.buffer.specs.Over.{over}
 use Rattle.block.specs.Block.{lookupWords}
-use Rattle.words.specs.Convention.{codeIn}
+use Rattle.refusal.specs.Words.{codeIn}
 use Rattle.block.specs.declared.Lookup.{Lookup}
 use Rattle.block.specs.declared.Lookup.the-variants.{Found, Absent, Refused}
 

@@ -1,27 +1,36 @@
 // The library as C programs call it: every entry point, with the answer's number as the result and its values in lent words. Nothing is
 // written where the number is not 0, but for the number of contexts that a walk listed.
+ghost use mathlib.Core.List.{[], _∷_};
 ghost use mathlib.Core.Path.{_≡_};
 ghost use Prim.Native.Nat.{_≤_};
 ghost use lib.ListN.{length};
 ghost use Rattle.refusal.specs.Check.{codeOf};
-ghost use Rattle.open.specs.Format.{profile, cct, trace};
+ghost use Rattle.refusal.specs.Words.{codeIn, valuesIn};
+ghost use Rattle.open.specs.Format as Format;
 ghost use Rattle.text.specs.String.{textWords};
 ghost use Rattle.meta.specs.Names.{titleAt, descriptionAt, kindAt, moduleAt, sourceAt, sourceWords};
 ghost use Rattle.metric.specs.Levels.{metricAt, scopeAt, summaryAt, metricWords, scopeWords, summaryWords};
 ghost use Rattle.function.specs.Function.{functionAt, functionWords};
-ghost use Rattle.traversal.specs.Traversal.{listOf};
-ghost use Rattle.traversal.specs.Walk.{walkWith, walkedOf, walkedWords, listingWith, tableAfter, recordsWith};
+ghost use Rattle.traversal.specs.Walk.{walkedWords, slices, Leaves};
 ghost use Rattle.count.specs.Count.{countOf, countWords};
 ghost use Rattle.tuple.specs.Tuple.{tupleAt, identifierAt, tupleWords, identifierWords};
 ghost use Rattle.trace.specs.Trace.{lineAt, sampleAt, lastAt, lineWords, sampleWords, lastWords};
 ghost use Rattle.total.specs.Totals.{totalsWords};
 ghost use Rattle.cct.specs.Totals.{cctTotals};
-ghost use Rattle.block.specs.Block.{profileShape, cctShape, lookupWords};
-ghost use Rattle.lookup.specs.Lookup.{profileBlock, cctBlock, profileLookup, cctLookup};
-ghost use Rattle.batch.specs.Batch.{batchBlock, batchCheck, batchAnswers};
-ghost use Rattle.words.specs.Convention.{codeIn, valuesIn, wordsIn, sectionsWords, countsWords};
+ghost use Rattle.block.specs.Block.{lookupWords};
+ghost use Rattle.lookup.specs.Lookup.{profileLookup, cctLookup};
+ghost use Rattle.batch.specs.Batch.{profileBatch, cctBatch};
+ghost use Rattle.words.specs.Convention.{wordsIn, sectionsWords, countsWords};
 ghost use Rattle.hpcdb.specs.Value.{valueIn, valueCode, valueBytes};
 use block::Lookup;
+use open::CONTEXT;
+use open::FILES;
+use open::FUNCTIONS;
+use open::GENERAL;
+use open::ID_NAMES;
+use open::METRICS;
+use open::MODULES;
+use open::STRINGS;
 use refusal::Check;
 
 // ---- meta.db
@@ -37,22 +46,22 @@ pub extern "C" fn hpcdb_meta_open(file: &[u8], out: &mut [u64; 16]) -> u32
     match check {
         Check::Passed => {
             *out = [
-                s[0][0],
-                s[0][1],
-                s[1][0],
-                s[1][1],
-                s[2][0],
-                s[2][1],
-                s[3][0],
-                s[3][1],
-                s[4][0],
-                s[4][1],
-                s[5][0],
-                s[5][1],
-                s[6][0],
-                s[6][1],
-                s[7][0],
-                s[7][1],
+                s[GENERAL][0],
+                s[GENERAL][1],
+                s[ID_NAMES][0],
+                s[ID_NAMES][1],
+                s[METRICS][0],
+                s[METRICS][1],
+                s[CONTEXT][0],
+                s[CONTEXT][1],
+                s[STRINGS][0],
+                s[STRINGS][1],
+                s[MODULES][0],
+                s[MODULES][1],
+                s[FILES][0],
+                s[FILES][1],
+                s[FUNCTIONS][0],
+                s[FUNCTIONS][1],
             ];
             0
         }
@@ -161,10 +170,8 @@ pub extern "C" fn hpcdb_meta_walk(
     table: &mut [u64],
     out: &mut [u64; 1],
 ) -> u32
-    ensures { λ r. ⌜ r ≡ codeIn (walkedWords (walkedOf (walkWith (now (file .entry)) (now (listing .entry)) (now (table .entry))))) ⌝ }
-    ensures { λ _. ⌜ now (out .exit) ≡ valuesIn (walkedWords (walkedOf (walkWith (now (file .entry)) (now (listing .entry)) (now (table .entry))))) ⌝ }
-    ensures { λ _. ⌜ now (listing .exit) ≡ listingWith (listOf (walkWith (now (file .entry)) (now (listing .entry)) (now (table .entry)))) (now (listing .entry)) ⌝ }
-    ensures { λ _. ⌜ now (table .exit) ≡ tableAfter (now (file .entry)) (walkWith (now (file .entry)) (now (listing .entry)) (now (table .entry))) (now (table .entry)) ⌝ }
+    ensures { λ r. ⌜ Leaves walkedWords (now (file .entry)) (slices (now (listing .entry)) (now (table .entry)) [])
+        (r ∷ now (out .exit)) (slices (now (listing .exit)) (now (table .exit)) []) ⌝ }
 {
     words::put_walked(walk::walk(file, listing, table), out)
 }
@@ -178,11 +185,8 @@ pub extern "C" fn hpcdb_meta_records(
     records: &mut [u64],
     out: &mut [u64; 1],
 ) -> u32
-    ensures { λ r. ⌜ r ≡ codeIn (walkedWords (walkedOf (walkWith (now (file .entry)) (now (listing .entry)) (now (table .entry))))) ⌝ }
-    ensures { λ _. ⌜ now (out .exit) ≡ valuesIn (walkedWords (walkedOf (walkWith (now (file .entry)) (now (listing .entry)) (now (table .entry))))) ⌝ }
-    ensures { λ _. ⌜ now (listing .exit) ≡ listingWith (listOf (walkWith (now (file .entry)) (now (listing .entry)) (now (table .entry)))) (now (listing .entry)) ⌝ }
-    ensures { λ _. ⌜ now (table .exit) ≡ tableAfter (now (file .entry)) (walkWith (now (file .entry)) (now (listing .entry)) (now (table .entry))) (now (table .entry)) ⌝ }
-    ensures { λ _. ⌜ now (records .exit) ≡ recordsWith (listOf (walkWith (now (file .entry)) (now (listing .entry)) (now (table .entry)))) (now (records .entry)) ⌝ }
+    ensures { λ r. ⌜ Leaves walkedWords (now (file .entry)) (slices (now (listing .entry)) (now (table .entry)) (now (records .entry)))
+        (r ∷ now (out .exit)) (slices (now (listing .exit)) (now (table .exit)) (now (records .exit))) ⌝ }
 {
     words::put_walked(walk::records(file, listing, table, records), out)
 }
@@ -192,8 +196,8 @@ pub extern "C" fn hpcdb_meta_records(
 // How many profiles there are.
 #[no_mangle]
 pub extern "C" fn hpcdb_profile_open(file: &[u8], out: &mut [u64; 1]) -> u32
-    ensures { λ r. ⌜ r ≡ codeIn (countWords (countOf profile (now (file .entry)))) ⌝ }
-    ensures { λ _. ⌜ now (out .exit) ≡ wordsIn (now (out .entry)) (countWords (countOf profile (now (file .entry)))) ⌝ }
+    ensures { λ r. ⌜ r ≡ codeIn (countWords (countOf Format.profile (now (file .entry)))) ⌝ }
+    ensures { λ _. ⌜ now (out .exit) ≡ wordsIn (now (out .entry)) (countWords (countOf Format.profile (now (file .entry)))) ⌝ }
 {
     words::put_count(count::profiles(file), out)
 }
@@ -201,8 +205,8 @@ pub extern "C" fn hpcdb_profile_open(file: &[u8], out: &mut [u64; 1]) -> u32
 // How many contexts there are.
 #[no_mangle]
 pub extern "C" fn hpcdb_cct_open(file: &[u8], out: &mut [u64; 1]) -> u32
-    ensures { λ r. ⌜ r ≡ codeIn (countWords (countOf cct (now (file .entry)))) ⌝ }
-    ensures { λ _. ⌜ now (out .exit) ≡ wordsIn (now (out .entry)) (countWords (countOf cct (now (file .entry)))) ⌝ }
+    ensures { λ r. ⌜ r ≡ codeIn (countWords (countOf Format.cct (now (file .entry)))) ⌝ }
+    ensures { λ _. ⌜ now (out .exit) ≡ wordsIn (now (out .entry)) (countWords (countOf Format.cct (now (file .entry)))) ⌝ }
 {
     words::put_count(count::contexts(file), out)
 }
@@ -210,8 +214,8 @@ pub extern "C" fn hpcdb_cct_open(file: &[u8], out: &mut [u64; 1]) -> u32
 // How many lines there are.
 #[no_mangle]
 pub extern "C" fn hpcdb_trace_open(file: &[u8], out: &mut [u64; 1]) -> u32
-    ensures { λ r. ⌜ r ≡ codeIn (countWords (countOf trace (now (file .entry)))) ⌝ }
-    ensures { λ _. ⌜ now (out .exit) ≡ wordsIn (now (out .entry)) (countWords (countOf trace (now (file .entry)))) ⌝ }
+    ensures { λ r. ⌜ r ≡ codeIn (countWords (countOf Format.trace (now (file .entry)))) ⌝ }
+    ensures { λ _. ⌜ now (out .exit) ≡ wordsIn (now (out .entry)) (countWords (countOf Format.trace (now (file .entry)))) ⌝ }
 {
     words::put_count(count::lines(file), out)
 }
@@ -338,13 +342,13 @@ pub extern "C" fn hpcdb_cct_lookup(
 pub extern "C" fn hpcdb_profile_lookup_many(
     file: &[u8],
     profile: u64,
-    pairs: &[u64],
+    asked: &[u64],
     answers: &mut [u64],
 ) -> u32
-    ensures { λ r. ⌜ r ≡ codeOf (batchCheck (batchBlock (now (pairs .entry)) (now (answers .entry)) (profileBlock (now (file .entry)) profile))) ⌝ }
-    ensures { λ _. ⌜ now (answers .exit) ≡ batchAnswers (now (file .entry)) profileShape (now (pairs .entry)) (now (answers .entry)) (batchBlock (now (pairs .entry)) (now (answers .entry)) (profileBlock (now (file .entry)) profile)) ⌝ }
+    ensures { λ r. ⌜ r ≡ codeOf (profileBatch (now (file .entry)) profile (now (asked .entry)) (now (answers .entry)) .check) ⌝ }
+    ensures { λ _. ⌜ now (answers .exit) ≡ profileBatch (now (file .entry)) profile (now (asked .entry)) (now (answers .entry)) .answers ⌝ }
 {
-    refusal::code(batch::profile_lookups(file, profile, pairs, answers)) as u32
+    refusal::code(batch::profile_lookups(file, profile, asked, answers)) as u32
 }
 
 // Many values of one block, by pairs of metrics and profiles: two words for each, 0 and the bits, or 100 and 0.
@@ -352,11 +356,11 @@ pub extern "C" fn hpcdb_profile_lookup_many(
 pub extern "C" fn hpcdb_cct_lookup_many(
     file: &[u8],
     context: u64,
-    pairs: &[u64],
+    asked: &[u64],
     answers: &mut [u64],
 ) -> u32
-    ensures { λ r. ⌜ r ≡ codeOf (batchCheck (batchBlock (now (pairs .entry)) (now (answers .entry)) (cctBlock (now (file .entry)) context))) ⌝ }
-    ensures { λ _. ⌜ now (answers .exit) ≡ batchAnswers (now (file .entry)) cctShape (now (pairs .entry)) (now (answers .entry)) (batchBlock (now (pairs .entry)) (now (answers .entry)) (cctBlock (now (file .entry)) context)) ⌝ }
+    ensures { λ r. ⌜ r ≡ codeOf (cctBatch (now (file .entry)) context (now (asked .entry)) (now (answers .entry)) .check) ⌝ }
+    ensures { λ _. ⌜ now (answers .exit) ≡ cctBatch (now (file .entry)) context (now (asked .entry)) (now (answers .entry)) .answers ⌝ }
 {
-    refusal::code(batch::cct_lookups(file, context, pairs, answers)) as u32
+    refusal::code(batch::cct_lookups(file, context, asked, answers)) as u32
 }

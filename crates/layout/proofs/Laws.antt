@@ -1,13 +1,11 @@
 -- What stands in a file, by its parts, and what is read there: a number that was laid out is read back.
-use Prim.Native.Nat.{ℕ, zero, suc, _+_, _*_, _/_, _%_, _^_, _≤_, _<_}
+use Prim.Native.Nat.{ℕ, zero, suc, _+_, _/_, _^_, _≤_, _<_}
 use mathlib.Core.Path.{_≡_, refl, sym, ap, _∙_}
-use mathlib.Core.Logic.{_⊎_, inl, inr}
-use mathlib.Core.List.{List, [], _∷_, _++_, append-nil}
-use native.Mathlib.Nat.{pow-suc, suc-mul, add-zero, zero-mul, eq-or-lt-of-le, le-of-suc-le-suc, not-suc-le-zero}
-use native.Mathlib.Numerals.{add-one}
+use mathlib.Core.List.{List, [], _∷_, _++_}
+use native.Mathlib.Nat.{pow-suc, add-zero, le-of-suc-le-suc, not-suc-le-zero}
 use native.Mathlib.Omega.{arith}
 use lib.ListN.{length, take, drop, length-append}
-use lib.Seq.{take-take, take-append-seam, drop-append-seam, take-add, drop-drop, take-length, take-append-add, drop-append-add}
+use lib.Seq.{take-take, take-append-seam, drop-append-seam, take-add, drop-drop, take-length}
 use Rattle.le.specs.Number.{value, number}
 use Rattle.layout.specs.Bytes.{bytes, Field, fields, offset, fieldAt, sizeOf, join, before, partAt}
 use Rattle.layout.specs.Stands.{Stands}

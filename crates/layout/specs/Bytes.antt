@@ -1,6 +1,6 @@
 -- Bytes that are laid out: of a text, of a number, of a structure's fields, of one thing after the other.
 use Prim.Native.Nat.{ℕ, zero, suc, _+_, _/_, _%_}
-use Prim.Native.Char.{Char, code}
+use Prim.Native.Char.{code}
 use Prim.Native.String.{String, [] as empty, _∷_ as then}
 use mathlib.Core.List.{List, [], _∷_, _++_}
 use lib.ListN.{length}

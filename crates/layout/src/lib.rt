@@ -5,7 +5,7 @@ ghost use lib.ListN.{length, take, drop};
 ghost use Rattle.layout.specs.Stands.{stands};
 
 // Whether the bytes of a text from i on, as many as a number has, stand in the file at a place: two loads and a comparison.
-pub fn same_u16(file: &[u8], at: usize, text: &[u8], i: usize) -> bool
+fn same_u16(file: &[u8], at: usize, text: &[u8], i: usize) -> bool
     requires { ⌜ at + 2 ≤ length (now file) ⌝ }
     requires { ⌜ i + 2 ≤ length (now text) ⌝ }
     ensures { λ r. ⌜ r ≡ stands (now (file .entry)) at (take 2 (drop i (now (text .entry)))) ⌝ }
@@ -13,7 +13,7 @@ pub fn same_u16(file: &[u8], at: usize, text: &[u8], i: usize) -> bool
     le::load_u16(file, at) == le::load_u16(text, i)
 }
 
-pub fn same_u32(file: &[u8], at: usize, text: &[u8], i: usize) -> bool
+fn same_u32(file: &[u8], at: usize, text: &[u8], i: usize) -> bool
     requires { ⌜ at + 4 ≤ length (now file) ⌝ }
     requires { ⌜ i + 4 ≤ length (now text) ⌝ }
     ensures { λ r. ⌜ r ≡ stands (now (file .entry)) at (take 4 (drop i (now (text .entry)))) ⌝ }
@@ -21,7 +21,7 @@ pub fn same_u32(file: &[u8], at: usize, text: &[u8], i: usize) -> bool
     le::load_u32(file, at) == le::load_u32(text, i)
 }
 
-pub fn same_u64(file: &[u8], at: usize, text: &[u8], i: usize) -> bool
+fn same_u64(file: &[u8], at: usize, text: &[u8], i: usize) -> bool
     requires { ⌜ at + 8 ≤ length (now file) ⌝ }
     requires { ⌜ i + 8 ≤ length (now text) ⌝ }
     ensures { λ r. ⌜ r ≡ stands (now (file .entry)) at (take 8 (drop i (now (text .entry)))) ⌝ }

@@ -1,16 +1,13 @@
 -- Lookups in profile.db and cct.db. The block of an element is checked, and then asked for an outer and an inner id.
 use Prim.Native.Nat.{ℕ}
-use mathlib.Core.List.{List, [], _∷_}
+use mathlib.Core.List.{List}
 use Rattle.refusal.specs.declared.Refusal.{Refusal}
-use Rattle.refusal.specs.declared.Refusal.the-variants as No
 use Rattle.refusal.specs.Check.{ifPassed}
-use Rattle.refusal.specs.Number.{numberOf}
 use Rattle.open.specs.Format as Format
-use Rattle.open.specs.Opening.{placeIn, pairs, opening}
-use Rattle.array.specs.declared.Element.{Element}
-use Rattle.array.specs.declared.Element.the-variants as Element
+use Rattle.open.specs.Names as Section
+use Rattle.open.specs.Opening.{placeIn, onOpened}
 use Rattle.array.specs.Element.{elementAt, onElement}
-use Rattle.array.specs.Stored.{infosArray}
+use Rattle.array.specs.Stored.{arrayOf}
 use Rattle.block.specs.declared.Shape.{Shape}
 use Rattle.block.specs.declared.Block.{Block}
 use Rattle.block.specs.declared.Lookup.{Lookup}
@@ -25,28 +22,19 @@ checkedBlock file h sections b = ifPassed Refused (blockCheck file h sections b)
 
 unfoldable pub checkedAt : List ℕ → Shape → (sections : List (List ℕ)) → (i : ℕ) → Checked
 checkedAt file h sections i =
-    onElement Refused (elementAt (infosArray file (placeIn sections 0)) i) (λ at. checkedBlock file h sections (blockAt file h at))
-
--- what an element that is not there says of its block
-unfoldable pub refusedBy : Element → Checked
-refusedBy (Element.At place) = Refused No.Index
-refusedBy (Element.Refused r) = Refused r
+    onElement Refused (elementAt (arrayOf file (placeIn sections Section.infos) Format.infosArray) i) (λ at. checkedBlock file h sections (blockAt file h at))
 
 -- what is answered of a checked block, or the refusal
 unfoldable pub onChecked : {A : Type 0} → (Refusal → A) → Checked → (Block → A) → A
 onChecked refused (Valid b) answer = answer b
 onChecked refused (Refused r) answer = refused r
 
-unfoldable pub checkedWords : Checked → List ℕ
-checkedWords (Valid b) = 0 ∷ b .total ∷ b .values ∷ b .count ∷ b .indices ∷ []
-checkedWords (Refused r) = numberOf r ∷ []
-
 -- of a profile of profile.db, and of a context of cct.db
 unfoldable pub profileBlock : List ℕ → (profile : ℕ) → Checked
-profileBlock file profile = ifPassed Refused (opening Format.profile file) (checkedAt file profileShape (pairs Format.profile file) profile)
+profileBlock file profile = onOpened Refused Format.profile file (λ ps. checkedAt file profileShape ps profile)
 
 unfoldable pub cctBlock : List ℕ → (context : ℕ) → Checked
-cctBlock file context = ifPassed Refused (opening Format.cct file) (checkedAt file cctShape (pairs Format.cct file) context)
+cctBlock file context = onOpened Refused Format.cct file (λ ps. checkedAt file cctShape ps context)
 
 -- in profile.db the outer ids are contexts and the inner ids metrics; in cct.db they are metrics and profiles
 unfoldable pub profileLookup : List ℕ → (profile context metric : ℕ) → Lookup

@@ -3,13 +3,17 @@ ghost use mathlib.Core.List.{[], _∷_};
 ghost use mathlib.Core.Path.{_≡_};
 ghost use Prim.Native.Nat.{_+_, _≤_};
 ghost use lib.ListN.{length, getD};
+ghost use Rattle.open.specs.Format.{infosArray};
 ghost use Rattle.array.specs.Element.{Bounded};
-ghost use Rattle.array.specs.Stored.{infosArray};
-ghost use Rattle.block.specs.Block.{blockAt, Widths};
-ghost use Rattle.lookup.specs.Lookup.{checkedBlock, checkedAt, profileBlock, cctBlock, profileLookup, cctLookup, refusedBy};
+ghost use Rattle.array.specs.Stored.{arrayOf};
+ghost use Rattle.block.specs.Block.{blockAt};
+ghost use Rattle.block.specs.Sound.{Widths};
+ghost use Rattle.lookup.specs.Lookup.{checkedBlock, checkedAt, profileBlock, cctBlock, profileLookup, cctLookup};
 use array::Element;
 use block::Lookup;
 use block::Shape;
+use open::ID_TUPLES;
+use open::INFOS;
 use refusal::Check;
 use refusal::Refusal;
 
@@ -17,15 +21,6 @@ use refusal::Refusal;
 pub enum Checked {
     Valid(block::Block),
     Refused(refusal::Refusal),
-}
-
-fn refused(element: Element) -> Checked
-    ensures { λ r. ⌜ r ≡ refusedBy element ⌝ }
-{
-    match element {
-        Element::At(_) => Checked::Refused(Refusal::Index),
-        Element::Refused(r) => Checked::Refused(r),
-    }
 }
 
 fn checked_block(file: &[u8], h: Shape, one: [u64; 2], other: [u64; 2], at: u64) -> Checked
@@ -41,16 +36,16 @@ fn checked_block(file: &[u8], h: Shape, one: [u64; 2], other: [u64; 2], at: u64)
 }
 
 // The block of element i of the array in the first of two sections; the other may have size 0.
-pub fn checked_at(file: &[u8], h: Shape, one: [u64; 2], other: [u64; 2], i: u64) -> Checked
+fn checked_at(file: &[u8], h: Shape, one: [u64; 2], other: [u64; 2], i: u64) -> Checked
     requires { ⌜ Widths h ⌝ }
-    requires { ⌜ Bounded (infosArray (now file) (getD one 0 0)) ⌝ }
+    requires { ⌜ Bounded (arrayOf (now file) (getD one 0 0) infosArray) ⌝ }
     requires { ⌜ getD one 0 0 + 13 ≤ length (now file) ⌝ }
     ensures { λ r. ⌜ r ≡ checkedAt (now (file .entry)) h (one ∷ other ∷ []) i ⌝ }
 {
     let infos = array::of_infos(file, one[0]);
     let element = array::nth(infos, i);
     let Element::At(at) = element else {
-        return refused(element);
+        return Checked::Refused(Refusal::Index);
     };
     checked_block(file, h, one, other, at)
 }
@@ -64,7 +59,7 @@ pub fn profile_block(file: &[u8], profile: u64) -> Checked
     match check {
         Check::Passed => {
             let h = block::profile_shape();
-            checked_at(file, h, sections[0], sections[1], profile)
+            checked_at(file, h, sections[INFOS], sections[ID_TUPLES], profile)
         }
         Check::Refused(r) => Checked::Refused(r),
     }
@@ -79,7 +74,7 @@ pub fn cct_block(file: &[u8], context: u64) -> Checked
     match check {
         Check::Passed => {
             let h = block::cct_shape();
-            checked_at(file, h, sections[0], [0; 2], context)
+            checked_at(file, h, sections[INFOS], [0; 2], context)
         }
         Check::Refused(r) => Checked::Refused(r),
     }

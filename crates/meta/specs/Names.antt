@@ -1,21 +1,21 @@
 -- meta.db's title and description, the names of identifier kinds, modules and source files; and how many there are of each.
--- `ps` are the pairs of place and size: 0 General, 1 IdNames, 2 Metrics, 3 Context, 4 Strings, 5 Modules, 6 Files, 7 Functions.
+-- `ps` are the pairs of place and size of its sections.
 use Prim.Native.Nat.{ℕ, _+_, _%_}
-use mathlib.Core.Bool.{Bool, cond}
+use mathlib.Core.Bool.{Bool}
 use mathlib.Core.List.{List, [], _∷_}
 use lib.Dec.{eqb}
-use lib.ListN.{getD}
 use Rattle.le.specs.Number.{number}
-use Rattle.refusal.specs.Number.{numberOf}
-use Rattle.refusal.specs.Check.{ifPassed}
+use Rattle.refusal.specs.Check.{either}
+use Rattle.refusal.specs.Words.{refusedWords}
 use Rattle.open.specs.Format.{meta}
-use Rattle.open.specs.Opening.{opening, pairs, placeIn}
+use Rattle.open.specs.Names as Section
+use Rattle.open.specs.Opening.{pairIn, placeIn, onOpened}
 use Rattle.text.specs.declared.Text.{Text}
 use Rattle.text.specs.declared.Text.the-variants as text
 use Rattle.text.specs.String.{stringAt, onText}
 use Rattle.array.specs.declared.Array.{Array}
 use Rattle.array.specs.Element.{elementAt, onElement}
-use Rattle.array.specs.Stored.{specsArray, infosArray, namesArray}
+use Rattle.array.specs.Stored.{arrayIn}
 use Rattle.meta.specs.declared.SourceFile.{SourceFile}
 use Rattle.meta.specs.declared.SourceFile.the-variants.{Found, Refused}
 
@@ -32,10 +32,10 @@ elementText file section a i offset = onElement text.Refused (elementAt a i) (λ
 -- ---- title and description
 
 abbrev pub generalIn : List ℕ → List (List ℕ) → (offset : ℕ) → Text
-generalIn file ps offset = stringOf file (getD ps 0 []) (placeIn ps 0) offset
+generalIn file ps offset = stringOf file (pairIn ps Section.general) (placeIn ps Section.general) offset
 
 unfoldable pub generalText : List ℕ → (offset : ℕ) → Text
-generalText file offset = ifPassed text.Refused (opening meta file) (generalIn file (pairs meta file) offset)
+generalText file offset = onOpened text.Refused meta file (λ ps. generalIn file ps offset)
 
 abbrev pub titleAt : List ℕ → Text
 titleAt file = generalText file 0
@@ -46,51 +46,51 @@ descriptionAt file = generalText file 8
 -- ---- identifier kinds and modules
 
 abbrev pub kindIn : List ℕ → List (List ℕ) → (kind : ℕ) → Text
-kindIn file ps kind = elementText file (getD ps 1 []) (namesArray file (placeIn ps 1)) kind 0
+kindIn file ps kind = elementText file (pairIn ps Section.idNames) (arrayIn meta file ps Section.idNames) kind 0
 
 unfoldable pub kindAt : List ℕ → (kind : ℕ) → Text
-kindAt file kind = ifPassed text.Refused (opening meta file) (kindIn file (pairs meta file) kind)
+kindAt file kind = onOpened text.Refused meta file (λ ps. kindIn file ps kind)
 
 abbrev pub moduleIn : List ℕ → List (List ℕ) → (i : ℕ) → Text
-moduleIn file ps i = elementText file (getD ps 4 []) (specsArray file (placeIn ps 5)) i 8
+moduleIn file ps i = elementText file (pairIn ps Section.strings) (arrayIn meta file ps Section.modules) i 8
 
 unfoldable pub moduleAt : List ℕ → (i : ℕ) → Text
-moduleAt file i = ifPassed text.Refused (opening meta file) (moduleIn file (pairs meta file) i)
+moduleAt file i = onOpened text.Refused meta file (λ ps. moduleIn file ps i)
 
--- ---- source files: `copied` is bit 0 of the flags
+-- ---- source files: bit 0 of the flags tells that one was copied
 
-unfoldable pub copied : List ℕ → (at : ℕ) → Bool
-copied file at = eqb (number 4 file at % 2) 1
+unfoldable pub isCopied : List ℕ → (at : ℕ) → Bool
+isCopied file at = eqb (number 4 file at % 2) 1
 
 unfoldable pub sourceOf : List ℕ → (section : List ℕ) (at : ℕ) → SourceFile
-sourceOf file section at = onText Refused (stringOf file section at 8) (λ place length. Found place length (copied file at))
+sourceOf file section at = onText Refused (stringOf file section at 8) (λ place n. Found place n (isCopied file at))
 
 abbrev pub sourceIn : List ℕ → List (List ℕ) → (i : ℕ) → SourceFile
-sourceIn file ps i = onElement Refused (elementAt (specsArray file (placeIn ps 6)) i) (λ p. sourceOf file (getD ps 4 []) p)
+sourceIn file ps i = onElement Refused (elementAt (arrayIn meta file ps Section.files) i) (λ p. sourceOf file (pairIn ps Section.strings) p)
 
 unfoldable pub sourceAt : List ℕ → (i : ℕ) → SourceFile
-sourceAt file i = ifPassed Refused (opening meta file) (sourceIn file (pairs meta file) i)
+sourceAt file i = onOpened Refused meta file (λ ps. sourceIn file ps i)
 
 -- an answer in words: its number, then place and length of the path, and 1 if copied
 unfoldable pub sourceWords : SourceFile → List ℕ
-sourceWords (Found place length copied) = 0 ∷ place ∷ length ∷ cond copied 1 0 ∷ []
-sourceWords (Refused r) = numberOf r ∷ 0 ∷ 0 ∷ 0 ∷ []
+sourceWords (Found place n copied) = 0 ∷ place ∷ n ∷ either copied 1 0 ∷ []
+sourceWords (Refused r) = refusedWords r
 
 -- its path
 unfoldable pub sourceText : SourceFile → Text
-sourceText (Found place length copied) = text.At place length
+sourceText (Found place n copied) = text.At place n
 sourceText (Refused r) = text.Refused r
 
 -- ---- counts: identifier kinds, metrics, modules, files, functions; after a refusal 0
 
 abbrev pub countsIn : List ℕ → List (List ℕ) → List ℕ
 countsIn file ps =
-    namesArray file (placeIn ps 1) .count
-    ∷ infosArray file (placeIn ps 2) .count
-    ∷ specsArray file (placeIn ps 5) .count
-    ∷ specsArray file (placeIn ps 6) .count
-    ∷ specsArray file (placeIn ps 7) .count
+    arrayIn meta file ps Section.idNames .count
+    ∷ arrayIn meta file ps Section.metrics .count
+    ∷ arrayIn meta file ps Section.modules .count
+    ∷ arrayIn meta file ps Section.files .count
+    ∷ arrayIn meta file ps Section.functions .count
     ∷ []
 
 unfoldable pub counts : List ℕ → List ℕ
-counts file = ifPassed (λ r. 0 ∷ 0 ∷ 0 ∷ 0 ∷ 0 ∷ []) (opening meta file) (countsIn file (pairs meta file))
+counts file = onOpened (λ r. 0 ∷ 0 ∷ 0 ∷ 0 ∷ 0 ∷ []) meta file (countsIn file)

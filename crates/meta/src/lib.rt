@@ -1,14 +1,20 @@
 // meta.db: title and description, identifier kinds, modules, source files, and the counts of all arrays.
 ghost use mathlib.Core.Path.{_≡_};
-ghost use lib.ListN.{length};
 ghost use Rattle.refusal.specs.Check.{codeOf};
 ghost use Rattle.open.specs.Format.{meta};
 ghost use Rattle.open.specs.Opening.{opening};
 ghost use Rattle.text.specs.String.{textBytes, textCode};
 ghost use Rattle.array.specs.Element.{elementAt, onElement, Bounded};
-ghost use Rattle.meta.specs.Names.{stringOf, elementText, generalText, titleAt, descriptionAt, kindAt, moduleAt, copied, sourceOf, sourceAt, sourceText, counts};
+ghost use Rattle.meta.specs.Names.{stringOf, elementText, generalText, titleAt, descriptionAt, kindAt, moduleAt, sourceOf, sourceAt, sourceText, counts};
 use array::Array;
 use array::Element;
+use open::FILES;
+use open::FUNCTIONS;
+use open::GENERAL;
+use open::ID_NAMES;
+use open::METRICS;
+use open::MODULES;
+use open::STRINGS;
 use refusal::Check;
 use text::Text;
 
@@ -30,7 +36,7 @@ pub fn string_of(file: &[u8], section: [u64; 2], at: u64, offset: u64) -> Text
 }
 
 // The same of element i of an array: 15, then 8.
-pub fn element_text(file: &[u8], section: [u64; 2], a: Array, i: u64, offset: u64) -> Text
+fn element_text(file: &[u8], section: [u64; 2], a: Array, i: u64, offset: u64) -> Text
     requires { ⌜ Bounded a ⌝ }
     ensures { λ r. ⌜ r ≡ elementText (now (file .entry)) section a i offset ⌝ }
 {
@@ -46,7 +52,7 @@ fn general_text(file: &[u8], offset: u64) -> Text
     let sections = open::meta_sections(file);
     let check = open::check_meta(file, &sections);
     match check {
-        Check::Passed => string_of(file, sections[0], sections[0][0], offset),
+        Check::Passed => string_of(file, sections[GENERAL], sections[GENERAL][0], offset),
         Check::Refused(r) => Text::Refused(r),
     }
 }
@@ -70,8 +76,8 @@ pub fn kind_at(file: &[u8], kind: u64) -> Text
     let check = open::check_meta(file, &sections);
     match check {
         Check::Passed => {
-            let names = array::of_names(file, sections[1][0]);
-            element_text(file, sections[1], names, kind, 0)
+            let names = array::of_names(file, sections[ID_NAMES][0]);
+            element_text(file, sections[ID_NAMES], names, kind, 0)
         }
         Check::Refused(r) => Text::Refused(r),
     }
@@ -84,8 +90,8 @@ pub fn module_at(file: &[u8], i: u64) -> Text
     let check = open::check_meta(file, &sections);
     match check {
         Check::Passed => {
-            let modules = array::of_specs(file, sections[5][0]);
-            element_text(file, sections[4], modules, i, 8)
+            let modules = array::of_specs(file, sections[MODULES][0]);
+            element_text(file, sections[STRINGS], modules, i, 8)
         }
         Check::Refused(r) => Text::Refused(r),
     }
@@ -122,8 +128,8 @@ pub fn source_file(file: &[u8], i: u64) -> SourceFile
     let check = open::check_meta(file, &sections);
     match check {
         Check::Passed => {
-            let files = array::of_specs(file, sections[6][0]);
-            source_in(file, sections[4], files, i)
+            let files = array::of_specs(file, sections[FILES][0]);
+            source_in(file, sections[STRINGS], files, i)
         }
         Check::Refused(r) => SourceFile::Refused(r),
     }
@@ -139,11 +145,11 @@ pub fn counts(file: &[u8], refusal: &mut u64) -> [u64; 5]
     *refusal = refusal::code(check);
     match check {
         Check::Passed => [
-            le::u8_at(file, sections[1][0], 8) as u64,
-            le::u32_at(file, sections[2][0], 8) as u64,
-            le::u32_at(file, sections[5][0], 8) as u64,
-            le::u32_at(file, sections[6][0], 8) as u64,
-            le::u32_at(file, sections[7][0], 8) as u64,
+            le::u8_at(file, sections[ID_NAMES][0], 8) as u64,
+            le::u32_at(file, sections[METRICS][0], 8) as u64,
+            le::u32_at(file, sections[MODULES][0], 8) as u64,
+            le::u32_at(file, sections[FILES][0], 8) as u64,
+            le::u32_at(file, sections[FUNCTIONS][0], 8) as u64,
         ],
         Check::Refused(_) => [0; 5],
     }

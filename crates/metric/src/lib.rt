@@ -7,12 +7,20 @@ ghost use Rattle.array.specs.Element.{Bounded};
 ghost use Rattle.metric.specs.Levels.{nestedOf, nestedAt, metricNested, scopeNested, metricFound, scopeFound, summaryFound, metricOf, scopeOf, summaryIn, summaryOf, metricAt, scopeAt, summaryAt, metricText, scopeText, summaryText, BoundedIn};
 use array::Array;
 use array::Element;
+use open::METRICS;
 use refusal::Check;
 use refusal::Refusal;
 use text::Text;
 
+// Of the section's header: its end, and where the strides of scopes and summaries stand.
+const HEADER_END: u64 = 15;
+
+const SCOPE_STRIDE: u64 = 13;
+
+const SUMMARY_STRIDE: u64 = 14;
+
 // A metric or a scope: its place, and the array of its scopes or summaries.
-pub enum Nested {
+enum Nested {
     Of { at: u64, inner: Array },
     Refused(refusal::Refusal),
 }
@@ -49,7 +57,7 @@ fn nested_of(file: &[u8], section: [u64; 2], at: u64, stride: u64) -> Nested
 {
     let place = le::u64_at(file, at, 16);
     let count = le::u16_at(file, at, 8) as u64;
-    if open::array_rule(section[0], 15, section[1], place, count, stride) {
+    if open::array_rule(section[0], HEADER_END, section[1], place, count, stride) {
         Nested::Of {
             at,
             inner: Array {
@@ -79,10 +87,10 @@ fn metric_nested(file: &[u8], sections: &[[u64; 2]; 8], m: u64) -> Nested
     ensures { λ r. ⌜ r ≡ metricNested (now (file .entry)) (now (sections .entry)) m ⌝ }
     ensures { λ r. ⌜ BoundedIn r ⌝ }
 {
-    let at = sections[2][0];
+    let at = sections[METRICS][0];
     let metrics = array::of_infos(file, at);
-    let stride = le::u8_at(file, at, 13) as u64;
-    nested_at(file, sections[2], metrics, m, stride)
+    let stride = le::u8_at(file, at, SCOPE_STRIDE) as u64;
+    nested_at(file, sections[METRICS], metrics, m, stride)
 }
 
 fn scope_nested(file: &[u8], sections: &[[u64; 2]; 8], m: u64, s: u64) -> Nested
@@ -93,8 +101,8 @@ fn scope_nested(file: &[u8], sections: &[[u64; 2]; 8], m: u64, s: u64) -> Nested
     let metric = metric_nested(file, sections, m);
     match metric {
         Nested::Of { at: _, inner } => {
-            let stride = le::u8_at(file, sections[2][0], 14) as u64;
-            nested_at(file, sections[2], inner, s, stride)
+            let stride = le::u8_at(file, sections[METRICS][0], SUMMARY_STRIDE) as u64;
+            nested_at(file, sections[METRICS], inner, s, stride)
         }
         Nested::Refused(r) => Nested::Refused(r),
     }
@@ -189,7 +197,7 @@ pub fn metric_at(file: &[u8], m: u64) -> Metric
     let sections = open::meta_sections(file);
     let check = open::check_meta(file, &sections);
     match check {
-        Check::Passed => metric_of(file, sections[2], metric_nested(file, &sections, m)),
+        Check::Passed => metric_of(file, sections[METRICS], metric_nested(file, &sections, m)),
         Check::Refused(r) => Metric::Refused(r),
     }
 }
@@ -200,7 +208,7 @@ pub fn scope_at(file: &[u8], m: u64, s: u64) -> Scope
     let sections = open::meta_sections(file);
     let check = open::check_meta(file, &sections);
     match check {
-        Check::Passed => scope_of(file, sections[2], scope_nested(file, &sections, m, s)),
+        Check::Passed => scope_of(file, sections[METRICS], scope_nested(file, &sections, m, s)),
         Check::Refused(r) => Scope::Refused(r),
     }
 }
@@ -211,7 +219,12 @@ pub fn summary_at(file: &[u8], m: u64, s: u64, k: u64) -> Summary
     let sections = open::meta_sections(file);
     let check = open::check_meta(file, &sections);
     match check {
-        Check::Passed => summary_of(file, sections[2], scope_nested(file, &sections, m, s), k),
+        Check::Passed => summary_of(
+            file,
+            sections[METRICS],
+            scope_nested(file, &sections, m, s),
+            k,
+        ),
         Check::Refused(r) => Summary::Refused(r),
     }
 }

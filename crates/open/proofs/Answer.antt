@@ -16,7 +16,7 @@ use Rattle.refusal.specs.declared.Check.the-variants.{Passed, Refused}
 use Rattle.refusal.specs.Check.{either, rule, first, codeOf, ifPassed}
 use Rattle.refusal.proofs.Checks.{not-both}
 use Rattle.open.specs.Format.{Format, section, nothing, profile, cct}
-use Rattle.open.specs.Opening.{placeFor, pairAt, pairsFrom, pairs, headerRule, headerCheck, strideRules, contentRule, frontRules, openingWith, opening, blank, pairsRead, opened}
+use Rattle.open.specs.Opening.{placeFor, pairAt, pairsFrom, pairs, headerRule, headerCheck, strideRules, contentRule, frontRules, openingWith, opening, blank, pairsRead, onOpened, opened}
 use Rattle.open.specs.Kept.{Sections}
 
 place-some : (size pointer : ℕ) → (size ≡ 0 → ⊥) → placeFor size pointer ≡ pointer
@@ -96,14 +96,13 @@ module _ (f : Format) (file : List ℕ) {ps : List (List ℕ)} {c : Check} (p : 
   pub told-passed : c ≡ Passed → Sections f file ps
   told-passed h = record { same = same-pairs h; passed = sym told ∙ h }
 
-  pub answers : {A : Type 0} → (refused : Refusal → A) (answer : List (List ℕ) → A) → c ≡ Passed
-      → answer ps ≡ ifPassed refused (opening f file) (answer (pairs f file))
-  unfolding ifPassed
+  pub answers : {A : Type 0} → (refused : Refusal → A) (answer : List (List ℕ) → A) → c ≡ Passed → answer ps ≡ onOpened refused f file answer
+  unfolding onOpened ifPassed
   answers refused answer h = rw (← told, h) (ap answer (same-pairs h))
 
-  pub refuses : {A : Type 0} → (refused : Refusal → A) (answer : A) (r : Refusal) → c ≡ Refused r
-      → refused r ≡ ifPassed refused (opening f file) answer
-  unfolding ifPassed
+  pub refuses : {A : Type 0} → (refused : Refusal → A) (answer : List (List ℕ) → A) (r : Refusal) → c ≡ Refused r
+      → refused r ≡ onOpened refused f file answer
+  unfolding onOpened ifPassed
   refuses refused answer r h = rw (← told, h)
 
   pub code-is : {n : ℕ} → n ≡ codeOf c → n ≡ codeOf (opening f file)
@@ -117,4 +116,4 @@ module _ (f : Format) (file : List ℕ) {ps : List (List ℕ)} {c : Check} (p : 
 
     pub refused : (r : Refusal) → c ≡ Refused r → (blank (pairs f file) ≡ opened f file) × (n ≡ codeOf (opening f file))
     unfolding opened
-    refused r h = (refuses (λ x. blank (pairs f file)) (pairs f file) r h, code-is e)
+    refused r h = (refuses (λ x. blank (pairs f file)) (λ x. x) r h, code-is e)

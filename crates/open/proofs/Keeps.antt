@@ -12,7 +12,6 @@ use lib.ListN.{length, getD}
 use Rattle.le.specs.Number.{number}
 use Rattle.range.specs.Range.{within, multiple}
 use Rattle.range.proofs.Tests.{both, unless, within-iff, multiple-iff}
-use Rattle.refusal.specs.declared.Refusal.{Refusal}
 use Rattle.refusal.specs.declared.Refusal.the-variants as No
 use Rattle.refusal.specs.declared.Check.{Check}
 use Rattle.refusal.specs.declared.Check.the-variants.{Passed}
@@ -20,7 +19,7 @@ use Rattle.refusal.specs.Check.{rule, first}
 use Rattle.refusal.proofs.Checks.{rule-passes, first-passes}
 use Rattle.layout.specs.Stands.{stands, Stands}
 use Rattle.layout.proofs.Prefix.{stands-iff}
-use Rattle.open.specs.Format.{Field, u64, Stride, Content, nothing, array, roots, Section, strings, Format, sectionAt}
+use Rattle.open.specs.Format.{u64, Stride, Content, nothing, array, roots, Section, stringsSection, Format, sectionAt}
 use Rattle.open.specs.Opening.{pairs, placeIn, sizeIn, sectionRule, strideRule, arrayRule, contextsRule, field, numberAt, strideRules, contentRule, headerRule, frontRules, inOrder, sectionCheck, headerCheck, openingWith, opening}
 use Rattle.open.specs.Kept.{SectionKept, StrideKept, ArrayKept, ContextsKept, StridesKept, ContentKept, AllKept, Opens}
 
@@ -132,7 +131,7 @@ content-iff file at end size roots = contexts-iff at end size (field file at (u6
 -- ---- checks in order, by position
 
 in-order-iff : (check : ℕ → Section → Check) (k : ℕ) (ss : List Section)
-    → (inOrder check k ss ≡ Passed) ↔ ((j : ℕ) → j < length ss → check (k + j) (getD ss j strings) ≡ Passed)
+    → (inOrder check k ss ≡ Passed) ↔ ((j : ℕ) → j < length ss → check (k + j) (getD ss j stringsSection) ≡ Passed)
 unfolding inOrder
 in-order-iff check k [] = (λ e j h. absurd (not-suc-le-zero h), λ f. refl)
 in-order-iff check k (s ∷ rest) =
@@ -145,13 +144,13 @@ in-order-iff check k (s ∷ rest) =
     next : (j : ℕ) → k + 1 + j ≡ k + suc j
     next j = omega arith
 
-    at-each : check k s ≡ Passed → ((j : ℕ) → j < length rest → check (k + 1 + j) (getD rest j strings) ≡ Passed) → (j : ℕ)
-        → j < length (s ∷ rest) → check (k + j) (getD (s ∷ rest) j strings) ≡ Passed
+    at-each : check k s ≡ Passed → ((j : ℕ) → j < length rest → check (k + 1 + j) (getD rest j stringsSection) ≡ Passed) → (j : ℕ)
+        → j < length (s ∷ rest) → check (k + j) (getD (s ∷ rest) j stringsSection) ≡ Passed
     at-each here later zero h = rw (add-zero k) here
     at-each here later (suc j) h = rw (← next j) (later j (le-of-suc-le-suc h))
 
 pub all-iff : (check : ℕ → Section → Check) (ss : List Section)
-    → (inOrder check 0 ss ≡ Passed) ↔ ((j : ℕ) → j < length ss → check j (getD ss j strings) ≡ Passed)
+    → (inOrder check 0 ss ≡ Passed) ↔ ((j : ℕ) → j < length ss → check j (getD ss j stringsSection) ≡ Passed)
 all-iff check ss =
     let i = in-order-iff check 0 ss in
     (λ e j h. rw (zero-add j) at (i .0 e j h), λ f. i .1 (λ j h. rw (zero-add j) (f j h)))

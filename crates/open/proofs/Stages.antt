@@ -15,7 +15,7 @@ use Rattle.refusal.specs.declared.Check.the-variants.{Passed, Refused}
 use Rattle.refusal.specs.Check.{rule, first}
 use Rattle.refusal.proofs.Checks.{rule-passes, first-passes, first-passed, after-passed, after-refused, rule-and}
 use Rattle.layout.specs.Stands.{starts, stands}
-use Rattle.open.specs.Format.{Section, strings, infos, profile}
+use Rattle.open.specs.Format.{Section, stringsSection, infosSection, profile}
 use Rattle.open.specs.Opening.{placeIn, sizeIn, sectionRule, frontRules, inOrder, sectionCheck}
 use Rattle.open.proofs.Keeps.{section-iff, all-iff}
 
@@ -69,10 +69,10 @@ kept-header header file end align place size e h =
     omega arith
 
 pub kept-headers : (header : ℕ) (file : List ℕ) (ps : List (List ℕ)) (ss : List Section) (j : ℕ) → inOrder (sectionCheck header file ps) 0 ss ≡ Passed → j < length ss
-    → 0 < getD ss j strings .end → placeIn ps j + getD ss j strings .end ≤ length file
+    → 0 < getD ss j stringsSection .end → placeIn ps j + getD ss j stringsSection .end ≤ length file
 unfolding sectionCheck
 kept-headers header file ps ss j e l h =
-    let s = getD ss j strings in
+    let s = getD ss j stringsSection in
     kept-header header file (s .end) (s .align) (placeIn ps j) (sizeIn ps j) (rule-passes _ No.Section .0 (all-iff (sectionCheck header file ps) ss .0 e j l)) h
 
 -- ---- 5 as one rule
@@ -83,7 +83,7 @@ module _ (file : List ℕ) (ps : List (List ℕ)) where
   unfolding inOrder sectionCheck
   two-rules = rw (first-passed) (sym (rule-and _ _ No.Section))
 
-  pub one-rule : (least : ℕ) → rule (sectionRule 32 (length file - 8) 13 8 (placeIn ps 0) (sizeIn ps 0)) No.Section ≡ inOrder (sectionCheck 32 file ps) 0 (infos least ∷ [])
+  pub one-rule : (least : ℕ) → rule (sectionRule 32 (length file - 8) 13 8 (placeIn ps 0) (sizeIn ps 0)) No.Section ≡ inOrder (sectionCheck 32 file ps) 0 (infosSection least ∷ [])
   unfolding inOrder sectionCheck
   one-rule least = rw (first-passed)
 

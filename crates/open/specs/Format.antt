@@ -59,38 +59,58 @@ pub record Format : Type 0 where
   pub header : ℕ
   pub sections : List Section
 
-abbrev pub general : Section
-general = section 16 8 [] nothing
+-- arrays of the names of identifier kinds; of metrics, profiles, cct entries and traces; of modules, files and functions
+abbrev pub namesArray : Content
+namesArray = array (u8 8) (fixed 8)
 
-abbrev pub idNames : Section
-idNames = section 9 8 [] (array (u8 8) (fixed 8))
+abbrev pub infosArray : Content
+infosArray = array (u32 8) (held (u8 12))
 
-abbrev pub metrics : Section
-metrics = section 15 8 (stride (u8 12) 24 ∷ stride (u8 13) 24 ∷ stride (u8 14) 16 ∷ []) (array (u32 8) (held (u8 12)))
+abbrev pub specsArray : Content
+specsArray = array (u32 8) (held (u16 12))
 
-abbrev pub contexts : Section
-contexts = section 16 8 [] roots
+abbrev pub generalSection : Section
+generalSection = section 16 8 [] nothing
 
-abbrev pub strings : Section
-strings = section 0 1 [] nothing
+abbrev pub idNamesSection : Section
+idNamesSection = section 9 8 [] namesArray
 
--- modules, files and functions: an array whose stride is a u16
-abbrev pub specs : (least : ℕ) → Section
-specs least = section 14 8 (stride (u16 12) least ∷ []) (array (u32 8) (held (u16 12)))
+-- strides of metrics, of their scopes, and of the scopes' summaries
+abbrev pub metricsSection : Section
+metricsSection = section 15 8 (stride (u8 12) 24 ∷ stride (u8 13) 24 ∷ stride (u8 14) 16 ∷ []) infosArray
 
--- profiles, cct entries and traces: an array whose stride is a u8
-abbrev pub infos : (least : ℕ) → Section
-infos least = section 13 8 (stride (u8 12) least ∷ []) (array (u32 8) (held (u8 12)))
+abbrev pub contextSection : Section
+contextSection = section 16 8 [] roots
 
-abbrev pub idTuples : Section
-idTuples = section 0 8 [] nothing
+abbrev pub stringsSection : Section
+stringsSection = section 0 1 [] nothing
+
+-- modules, files and functions
+abbrev pub specsSection : (least : ℕ) → Section
+specsSection least = section 14 8 (stride (u16 12) least ∷ []) specsArray
+
+-- profiles, cct entries and traces
+abbrev pub infosSection : (least : ℕ) → Section
+infosSection least = section 13 8 (stride (u8 12) least ∷ []) infosArray
+
+abbrev pub idTuplesSection : Section
+idTuplesSection = section 0 8 [] nothing
 
 abbrev pub meta : Format
 meta = record {
   magic = ascii "HPCTOOLKITmeta";
   footer = ascii "_meta.db";
   header = 144;
-  sections = general ∷ idNames ∷ metrics ∷ contexts ∷ strings ∷ specs 16 ∷ specs 16 ∷ specs 40 ∷ [];
+  sections =
+      generalSection
+      ∷ idNamesSection
+      ∷ metricsSection
+      ∷ contextSection
+      ∷ stringsSection
+      ∷ specsSection 16
+      ∷ specsSection 16
+      ∷ specsSection 40
+      ∷ [];
 }
 
 abbrev pub profile : Format
@@ -98,12 +118,12 @@ profile = record {
   magic = ascii "HPCTOOLKITprof";
   footer = ascii "_prof.db";
   header = 48;
-  sections = infos 40 ∷ idTuples ∷ [];
+  sections = infosSection 40 ∷ idTuplesSection ∷ [];
 }
 
 -- cct.db and trace.db have one section each
 abbrev pub single : (magic footer : List ℕ) (least : ℕ) → Format
-single magic footer least = record { magic = magic; footer = footer; header = 32; sections = infos least ∷ [] }
+single magic footer least = record { magic = magic; footer = footer; header = 32; sections = infosSection least ∷ [] }
 
 abbrev pub cct : Format
 cct = single (ascii "HPCTOOLKITctxt") (ascii "__ctx.db") 32
@@ -112,6 +132,10 @@ cct = single (ascii "HPCTOOLKITctxt") (ascii "__ctx.db") 32
 abbrev pub trace : Format
 trace = single (ascii "HPCTOOLKITtrce") [] 24
 
+-- the field of a section's stride j
+abbrev pub strideAt : Section → (j : ℕ) → Field
+strideAt s j = getD (s .strides) j (stride (u8 0) 0) .field
+
 -- section k in header order
 abbrev pub sectionAt : Format → (k : ℕ) → Section
-sectionAt f k = getD (f .sections) k strings
+sectionAt f k = getD (f .sections) k stringsSection

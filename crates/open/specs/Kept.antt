@@ -1,4 +1,4 @@
--- The opening rules as facts. A file opens exactly if they hold (proofs/Kept.antt).
+-- The opening rules as facts. A file opens exactly if they hold (proofs/Keeps.antt).
 use Prim.Native.Nat.{ℕ, _+_, _-_, _*_, _%_, _≤_, _<_}
 use mathlib.Core.List.{List, [], _∷_}
 use mathlib.Core.Path.{_≡_}

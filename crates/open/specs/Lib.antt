@@ -1,3 +1,4 @@
 pub mod Format
+pub mod Names
 pub mod Opening
 pub mod Kept

@@ -1,11 +1,12 @@
 -- Opening: document 01's rules over a format, in its order of refusals, on exact numbers.
 use Prim.Native.Nat.{ℕ, zero, suc, _+_, _-_, _*_}
-use mathlib.Core.Bool.{Bool, true, false, _&&_, _||_, not}
+use mathlib.Core.Bool.{Bool, true, _&&_, _||_, not}
 use mathlib.Core.List.{List, [], _∷_}
 use lib.Dec.{leb, eqb}
 use lib.ListN.{length, getD}
 use Rattle.le.specs.Number.{number}
 use Rattle.range.specs.Range.{within, multiple}
+use Rattle.refusal.specs.declared.Refusal.{Refusal}
 use Rattle.refusal.specs.declared.Refusal.the-variants as No
 use Rattle.refusal.specs.declared.Check.{Check}
 use Rattle.refusal.specs.declared.Check.the-variants.{Passed}
@@ -32,11 +33,15 @@ pairsFrom file entry (s ∷ rest) = pairAt file entry ∷ pairsFrom file (entry 
 unfoldable pub pairs : Format → List ℕ → List (List ℕ)
 pairs f file = pairsFrom file 16 (f .sections)
 
-abbrev pub placeIn : (pairs : List (List ℕ)) (k : ℕ) → ℕ
-placeIn ps k = getD (getD ps k []) 0 0
+-- those of section k
+abbrev pub pairIn : List (List ℕ) → (k : ℕ) → List ℕ
+pairIn ps k = getD ps k []
 
-abbrev pub sizeIn : (pairs : List (List ℕ)) (k : ℕ) → ℕ
-sizeIn ps k = getD (getD ps k []) 1 0
+abbrev pub placeIn : List (List ℕ) → (k : ℕ) → ℕ
+placeIn ps k = getD (pairIn ps k) 0 0
+
+abbrev pub sizeIn : List (List ℕ) → (k : ℕ) → ℕ
+sizeIn ps k = getD (pairIn ps k) 1 0
 
 -- ---- rules of one section. In a file the header ends at `header`, and the last eight bytes start at `last`
 
@@ -125,6 +130,10 @@ blank (p ∷ ps) = (0 ∷ 0 ∷ []) ∷ blank ps
 unfoldable pub pairsRead : Format → List ℕ → List (List ℕ)
 pairsRead f file = either (leb (f .header) (length file)) (pairs f file) (blank (pairs f file))
 
--- what an opened file answers with
+-- what is answered of a file that opens, by its pairs, or the refusal: every reader opens its file afresh
+unfoldable pub onOpened : {A : Type 0} → (Refusal → A) → Format → List ℕ → (List (List ℕ) → A) → A
+onOpened refused f file answer = ifPassed refused (opening f file) (answer (pairs f file))
+
+-- what opening itself answers with
 unfoldable pub opened : Format → List ℕ → List (List ℕ)
-opened f file = ifPassed (λ r. blank (pairs f file)) (opening f file) (pairs f file)
+opened f file = onOpened (λ r. blank (pairs f file)) f file (λ ps. ps)

@@ -8,10 +8,33 @@ ghost use Rattle.refusal.specs.Check.{codeOf, rule, first};
 ghost use Rattle.refusal.specs.declared.Refusal.the-variants as No;
 ghost use Rattle.refusal.specs.declared.Check.the-variants.{Passed};
 ghost use Rattle.layout.specs.Stands.{stands};
-ghost use Rattle.open.specs.Format.{meta, profile, cct, trace, infos, specs, idNames, metrics, contexts};
+ghost use Rattle.open.specs.Format.{meta, profile, cct, trace, infosSection, specsSection, idNamesSection, metricsSection, contextSection};
 ghost use Rattle.open.specs.Opening.{sectionRule, strideRule, arrayRule, contextsRule, headerRule, frontRules, inOrder, sectionCheck, headerCheck, pairAt, pairsRead, openingWith, opening, opened};
 use refusal::Check;
 use refusal::Refusal;
+
+// Positions of sections in the header: of meta.db,
+pub const GENERAL: usize = 0;
+
+pub const ID_NAMES: usize = 1;
+
+pub const METRICS: usize = 2;
+
+pub const CONTEXT: usize = 3;
+
+pub const STRINGS: usize = 4;
+
+pub const MODULES: usize = 5;
+
+pub const FILES: usize = 6;
+
+pub const FUNCTIONS: usize = 7;
+
+// of the other files: the one with their array of profiles, contexts or traces;
+pub const INFOS: usize = 0;
+
+// of profile.db.
+pub const ID_TUPLES: usize = 1;
 
 const META: [u8; 14] = *b"HPCTOOLKITmeta";
 
@@ -131,7 +154,7 @@ fn strides_then_array(strides: bool, array: bool) -> Check
 // 6 and 7, of a header whose array has a stride of one byte, at 12.
 fn infos_header(file: &[u8], least: u64, section: [u64; 2]) -> Check
     requires { ⌜ getD section 0 0 + 13 ≤ length (now file) ⌝ }
-    ensures { λ r. ⌜ r ≡ headerRule (now (file .entry)) (infos least) (getD section 0 0) (getD section 1 0) ⌝ }
+    ensures { λ r. ⌜ r ≡ headerRule (now (file .entry)) (infosSection least) (getD section 0 0) (getD section 1 0) ⌝ }
 {
     let at = section[0];
     let from = at as usize;
@@ -148,7 +171,7 @@ fn infos_header(file: &[u8], least: u64, section: [u64; 2]) -> Check
 // The same with a stride of two bytes.
 fn specs_header(file: &[u8], least: u64, section: [u64; 2]) -> Check
     requires { ⌜ getD section 0 0 + 14 ≤ length (now file) ⌝ }
-    ensures { λ r. ⌜ r ≡ headerRule (now (file .entry)) (specs least) (getD section 0 0) (getD section 1 0) ⌝ }
+    ensures { λ r. ⌜ r ≡ headerRule (now (file .entry)) (specsSection least) (getD section 0 0) (getD section 1 0) ⌝ }
 {
     let at = section[0];
     let from = at as usize;
@@ -163,7 +186,7 @@ fn specs_header(file: &[u8], least: u64, section: [u64; 2]) -> Check
 // 7, of the names of identifier kinds.
 fn names_header(file: &[u8], section: [u64; 2]) -> Check
     requires { ⌜ getD section 0 0 + 9 ≤ length (now file) ⌝ }
-    ensures { λ r. ⌜ r ≡ headerRule (now (file .entry)) idNames (getD section 0 0) (getD section 1 0) ⌝ }
+    ensures { λ r. ⌜ r ≡ headerRule (now (file .entry)) idNamesSection (getD section 0 0) (getD section 1 0) ⌝ }
 {
     let at = section[0];
     let from = at as usize;
@@ -178,7 +201,7 @@ fn names_header(file: &[u8], section: [u64; 2]) -> Check
 // 6 and 7, of the metrics.
 fn metrics_header(file: &[u8], section: [u64; 2]) -> Check
     requires { ⌜ getD section 0 0 + 15 ≤ length (now file) ⌝ }
-    ensures { λ r. ⌜ r ≡ headerRule (now (file .entry)) metrics (getD section 0 0) (getD section 1 0) ⌝ }
+    ensures { λ r. ⌜ r ≡ headerRule (now (file .entry)) metricsSection (getD section 0 0) (getD section 1 0) ⌝ }
 {
     let at = section[0];
     let from = at as usize;
@@ -195,7 +218,7 @@ fn metrics_header(file: &[u8], section: [u64; 2]) -> Check
 // 7, of the roots.
 fn contexts_header(file: &[u8], section: [u64; 2]) -> Check
     requires { ⌜ getD section 0 0 + 16 ≤ length (now file) ⌝ }
-    ensures { λ r. ⌜ r ≡ headerRule (now (file .entry)) contexts (getD section 0 0) (getD section 1 0) ⌝ }
+    ensures { λ r. ⌜ r ≡ headerRule (now (file .entry)) contextSection (getD section 0 0) (getD section 1 0) ⌝ }
 {
     let at = section[0];
     let from = at as usize;
@@ -250,14 +273,14 @@ pub fn single_section(file: &[u8]) -> [[u64; 2]; 1]
 fn meta_section_rules(file: &[u8], s: &[[u64; 2]; 8]) -> bool
     ensures { λ r. ⌜ rule r No.Section ≡ inOrder (sectionCheck 144 (now (file .entry)) (now (s .entry))) 0 (meta .sections) ⌝ }
 {
-    let general = section_rule(file, 144, 16, 8, s[0]);
-    let names = section_rule(file, 144, 9, 8, s[1]);
-    let metrics = section_rule(file, 144, 15, 8, s[2]);
-    let contexts = section_rule(file, 144, 16, 8, s[3]);
-    let strings = section_rule(file, 144, 0, 1, s[4]);
-    let modules = section_rule(file, 144, 14, 8, s[5]);
-    let files = section_rule(file, 144, 14, 8, s[6]);
-    let functions = section_rule(file, 144, 14, 8, s[7]);
+    let general = section_rule(file, 144, 16, 8, s[GENERAL]);
+    let names = section_rule(file, 144, 9, 8, s[ID_NAMES]);
+    let metrics = section_rule(file, 144, 15, 8, s[METRICS]);
+    let contexts = section_rule(file, 144, 16, 8, s[CONTEXT]);
+    let strings = section_rule(file, 144, 0, 1, s[STRINGS]);
+    let modules = section_rule(file, 144, 14, 8, s[MODULES]);
+    let files = section_rule(file, 144, 14, 8, s[FILES]);
+    let functions = section_rule(file, 144, 14, 8, s[FUNCTIONS]);
     let last = contexts & (strings & (modules & (files & functions)));
     general & (names & (metrics & last))
 }
@@ -267,12 +290,12 @@ fn meta_header_checks(file: &[u8], s: &[[u64; 2]; 8]) -> Check
     requires { ⌜ inOrder (sectionCheck 144 (now file) (now s)) 0 (meta .sections) ≡ Passed ⌝ }
     ensures { λ r. ⌜ r ≡ inOrder (headerCheck (now (file .entry)) (now (s .entry))) 0 (meta .sections) ⌝ }
 {
-    let names = names_header(file, s[1]);
-    let metrics = metrics_header(file, s[2]);
-    let contexts = contexts_header(file, s[3]);
-    let modules = specs_header(file, 16, s[5]);
-    let files = specs_header(file, 16, s[6]);
-    let functions = specs_header(file, 40, s[7]);
+    let names = names_header(file, s[ID_NAMES]);
+    let metrics = metrics_header(file, s[METRICS]);
+    let contexts = contexts_header(file, s[CONTEXT]);
+    let modules = specs_header(file, 16, s[MODULES]);
+    let files = specs_header(file, 16, s[FILES]);
+    let functions = specs_header(file, 40, s[FUNCTIONS]);
     let last = refusal::first(modules, refusal::first(files, functions));
     refusal::first(
         names,
@@ -293,19 +316,19 @@ fn meta_rules(file: &[u8], s: &[[u64; 2]; 8]) -> Check
 fn profile_rules(file: &[u8], s: [[u64; 2]; 2]) -> Check
     ensures { λ r. ⌜ r ≡ first (inOrder (sectionCheck 48 (now (file .entry)) s) 0 (profile .sections)) (inOrder (headerCheck (now (file .entry)) s) 0 (profile .sections)) ⌝ }
 {
-    let infos = section_rule(file, 48, 13, 8, s[0]);
-    let tuples = section_rule(file, 48, 0, 8, s[1]);
+    let infos = section_rule(file, 48, 13, 8, s[INFOS]);
+    let tuples = section_rule(file, 48, 0, 8, s[ID_TUPLES]);
     if infos & tuples {
-        return infos_header(file, 40, s[0]);
+        return infos_header(file, 40, s[INFOS]);
     }
     Check::Refused(Refusal::Section)
 }
 
 fn single_rules(file: &[u8], least: u64, s: [[u64; 2]; 1]) -> Check
-    ensures { λ r. ⌜ r ≡ first (inOrder (sectionCheck 32 (now (file .entry)) s) 0 (infos least ∷ [])) (inOrder (headerCheck (now (file .entry)) s) 0 (infos least ∷ [])) ⌝ }
+    ensures { λ r. ⌜ r ≡ first (inOrder (sectionCheck 32 (now (file .entry)) s) 0 (infosSection least ∷ [])) (inOrder (headerCheck (now (file .entry)) s) 0 (infosSection least ∷ [])) ⌝ }
 {
-    if section_rule(file, 32, 13, 8, s[0]) {
-        return infos_header(file, least, s[0]);
+    if section_rule(file, 32, 13, 8, s[INFOS]) {
+        return infos_header(file, least, s[INFOS]);
     }
     Check::Refused(Refusal::Section)
 }

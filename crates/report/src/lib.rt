@@ -3,8 +3,7 @@
 ghost use mathlib.Core.Path.{_≡_};
 ghost use lib.Dec.{ltb};
 ghost use lib.ListN.{length};
-ghost use Rattle.traversal.specs.Traversal.{listOf};
-ghost use Rattle.traversal.specs.Walk.{walkWith, walkedOf, numberListed, listingWith, recordsWith, tableAfter};
+ghost use Rattle.traversal.specs.Walk.{numberListed, slices, Leaves};
 use context::RECORD;
 use libc::STDOUT_FILENO;
 use traversal::Walked;
@@ -12,16 +11,16 @@ use traversal::Walked;
 // The longest file that the listing program takes.
 const LONGEST: usize = 32768;
 
-pub fn number(n: u64) {
+fn number(n: u64) {
     io::print_decimal(STDOUT_FILENO, n);
 }
 
-pub fn spaced(n: u64) {
+fn spaced(n: u64) {
     io::write_all(STDOUT_FILENO, b" ");
     number(n);
 }
 
-pub fn newline() {
+fn newline() {
     io::write_all(STDOUT_FILENO, b"\n");
 }
 
@@ -77,10 +76,8 @@ fn end(walked: Walked) {
 
 // Walks a file with these slices, prints a heading, each context whose record there is room for, and the end; gives the number listed.
 pub fn show(file: &[u8], listing: &mut [u64], table: &mut [u64], records: &mut [u64]) -> usize
-    ensures { λ r. ⌜ r ≡ numberListed (walkedOf (walkWith (now (file .entry)) (now (listing .entry)) (now (table .entry)))) ⌝ }
-    ensures { λ _. ⌜ now (listing .exit) ≡ listingWith (listOf (walkWith (now (file .entry)) (now (listing .entry)) (now (table .entry)))) (now (listing .entry)) ⌝ }
-    ensures { λ _. ⌜ now (table .exit) ≡ tableAfter (now (file .entry)) (walkWith (now (file .entry)) (now (listing .entry)) (now (table .entry))) (now (table .entry)) ⌝ }
-    ensures { λ _. ⌜ now (records .exit) ≡ recordsWith (listOf (walkWith (now (file .entry)) (now (listing .entry)) (now (table .entry)))) (now (records .entry)) ⌝ }
+    ensures { λ r. ⌜ Leaves numberListed (now (file .entry)) (slices (now (listing .entry)) (now (table .entry)) (now (records .entry)))
+        r (slices (now (listing .exit)) (now (table .exit)) (now (records .exit))) ⌝ }
 {
     io::write_all(STDOUT_FILENO, b"place depth id type relation\n");
     let walked = walk::records(file, listing, table, records);

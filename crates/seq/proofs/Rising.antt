@@ -77,22 +77,29 @@ module _ (least gap : ℕ) (f : ℕ → ℕ) where
       (omega (arith, says two three (so .2)))
       (omega (arith, says three four (so .3)))
 
+-- a loop in steps of four: what stands at k is the last of n that is known to rise
+pub record Known (least gap : ℕ) (f : ℕ → ℕ) (n k : ℕ) : Type 0 where
+  pub within : k < n
+  pub so-far : rises least gap f (k + 1) ≡ true
+
+pub known-first : (least gap : ℕ) (f : ℕ → ℕ) (n : ℕ) → 0 < n → least ≤ f 0 → Known least gap f n 0
+known-first least gap f n l h = record { within = l; so-far = rises-one least gap f h }
+
+pub known-four : {least gap : ℕ} {f : ℕ → ℕ} {n k : ℕ} → Known least gap f n k → 4 < n - k
+    → (rises least gap f (k + 1) ≡ true → rises least gap f (k + 5) ≡ true) → Known least gap f n (k + 4)
+known-four {k = k} h l four =
+    let e : k + 4 + 1 ≡ k + 5 = omega arith in
+    record { within = omega (arith, h .within); so-far = rw e (four (h .so-far)) }
+
 -- the loop: k passed, all of them right, and the next is to be at least `low`
 pub record Rising (least gap : ℕ) (f : ℕ → ℕ) (n low k : ℕ) : Type 0 where
   pub within : k ≤ n
   pub low-is : low ≡ floor least gap f k
   pub so-far : rises least gap f k ≡ true
 
--- from where it is known: the last that has passed stands at k, or before k
+-- from where it is known: the last that has passed stands at k
 pub rising-after : {least gap : ℕ} {f : ℕ → ℕ} {n k : ℕ} → k < n → rises least gap f (k + 1) ≡ true → Rising least gap f n (f k + gap) (k + 1)
 rising-after {least} {gap} {f} {n} {k} l h = record { within = omega arith; low-is = rw add-one (sym (floor-next least gap f k)); so-far = h }
-
-pub rising-before : {least gap : ℕ} {f : ℕ → ℕ} {n k : ℕ} → 0 < k → k ≤ n → rises least gap f k ≡ true
-    → Rising least gap f n (f (k - 1) + gap) k
-rising-before {least} {gap} {f} {n} {k} s l h =
-    let e : k - 1 + 1 ≡ k = omega arith in
-    let r = rising-after {least = least} {gap = gap} {f = f} {n = n} {k = k - 1} (omega arith) (rw e h) in
-    record { within = l; low-is = rw e at (r .low-is); so-far = h }
 
 pub rising-start : (least gap : ℕ) (f : ℕ → ℕ) (n : ℕ) → Rising least gap f n least 0
 unfolding floor
@@ -137,9 +144,6 @@ next-sorted f n h p q l m = omega (arith, apart 1 f n (λ k l. omega (arith, h k
 
 pub rises-sorted : (least : ℕ) (f : ℕ → ℕ) (n : ℕ) → rises least 1 f n ≡ true → Sorted f n
 rises-sorted least f n h p q l m = omega (arith, rises-apart least 1 f n h p q l m)
-
-pub sorted-nondecreasing : (f : ℕ → ℕ) (n : ℕ) → Sorted f n → NonDecreasing f n
-sorted-nondecreasing f n s p q l m = omega (arith, s p q l m)
 
 pub sorted-rises : (least : ℕ) (f : ℕ → ℕ) (n : ℕ) → Sorted f n → (0 < n → least ≤ f 0) → rises least 1 f n ≡ true
 sorted-rises least f n s m = rises-of least 1 f n m (λ k l. omega (arith, s k (suc k) (omega arith) l))

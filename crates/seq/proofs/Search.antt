@@ -9,8 +9,8 @@ use native.Mathlib.Decide.{decLe}
 use native.Mathlib.Omega.{arith}
 use borrow.Author.Tests.{le-leb, lt-leb, eq-eqb, ne-eqb}
 use lib.Dec.{leb, eqb}
-use Rattle.seq.specs.Sequence.{hereOr, position, lastUpTo, Sorted, NonDecreasing, Window}
-use Rattle.seq.specs.declared.Position.{Position}
+use Rattle.refusal.specs.Check.{either}
+use Rattle.seq.specs.Sequence.{position, lastUpTo, Sorted, NonDecreasing, Window}
 use Rattle.seq.specs.declared.Position.the-variants.{At, Nowhere}
 
 -- the search by halving: all before `lo` is below the key, and all from `hi` on is at least the key
@@ -50,22 +50,22 @@ module _ {f : ℕ → ℕ} {n key lo hi : ℕ} (s : NonDecreasing f n) (b : Brac
 
 -- what the position is
 pub position-none : (f : ℕ → ℕ) (key n : ℕ) → ((k : ℕ) → k < n → f k ≡ key → ⊥) → position f key n ≡ Nowhere
-unfolding position hereOr
+unfolding position either
 position-none f key zero h = refl
 position-none f key (suc n) h = rw (ne-eqb _ _ (h n (omega arith))) (position-none f key n (λ k l. h k (omega arith)))
 
 pub position-at : (f : ℕ → ℕ) (key n : ℕ) → Sorted f n → (k : ℕ) → k < n → f k ≡ key → position f key n ≡ At k
-unfolding position hereOr
+unfolding position either
 position-at f key zero s k l e = absurd (not-suc-le-zero l)
 position-at f key (suc n) s k l e = last (eq-or-lt-of-le (le-of-suc-le-suc l)) (λ m. position-at f key n (λ p q u v. s p q u (omega arith)) k m e)
   where
-    last : (k ≡ n) ⊎ (k < n) → (k < n → position f key n ≡ At k) → hereOr (eqb (f n) key) n (position f key n) ≡ At k
+    last : (k ≡ n) ⊎ (k < n) → (k < n → position f key n ≡ At k) → either (eqb (f n) key) (At n) (position f key n) ≡ At k
     last (inl q) r = rw (eq-eqb (f n) key (ap f (sym q) ∙ e)) (ap At (sym q))
     last (inr m) r = rw (ne-eqb (f n) key (λ q. omega (arith, s k n m (omega arith)))) (r m)
 
 -- a position is below the number searched
 pub position-below : (f : ℕ → ℕ) (key n k : ℕ) → position f key n ≡ At k → k < n
-unfolding position hereOr
+unfolding position either
 position-below f key zero k e = absurd (let z : _≡_ {A = ℕ} 0 1 = cc in omega arith)
 position-below f key (suc n) k e = go (eqb (f n) key) refl (position-below f key n k)
   where
@@ -75,16 +75,16 @@ position-below f key (suc n) k e = go (eqb (f n) key) refl (position-below f key
 
 -- the last that is not above a key, where the ends have met on the way to the first above it
 pub last-none : (f : ℕ → ℕ) (key n : ℕ) → ((k : ℕ) → k < n → key < f k) → lastUpTo f key n ≡ Nowhere
-unfolding lastUpTo hereOr
+unfolding lastUpTo either
 last-none f key zero h = refl
 last-none f key (suc n) h = rw (lt-leb (f n) key (h n (omega arith))) (last-none f key n (λ k l. h k (omega arith)))
 
 pub last-at : (f : ℕ → ℕ) (key n k : ℕ) → k < n → f k ≤ key → ((j : ℕ) → k < j → j < n → key < f j) → lastUpTo f key n ≡ At k
-unfolding lastUpTo hereOr
+unfolding lastUpTo either
 last-at f key zero k l h a = absurd (not-suc-le-zero l)
 last-at f key (suc n) k l h a = last (eq-or-lt-of-le (le-of-suc-le-suc l)) (λ m. last-at f key n k m h (λ j p q. a j p (omega arith)))
   where
-    last : (k ≡ n) ⊎ (k < n) → (k < n → lastUpTo f key n ≡ At k) → hereOr (leb (f n) key) n (lastUpTo f key n) ≡ At k
+    last : (k ≡ n) ⊎ (k < n) → (k < n → lastUpTo f key n ≡ At k) → either (leb (f n) key) (At n) (lastUpTo f key n) ≡ At k
     last (inl q) r = rw (le-leb (f n) key (rw q at h)) (ap At (sym q))
     last (inr m) r = rw (lt-leb (f n) key (a n m (omega arith))) (r m)
 
@@ -97,7 +97,7 @@ module _ (key : ℕ) {f : ℕ → ℕ} {n lo hi : ℕ} (b : Bracket f n (key + 1
       (λ j p q. omega (arith, b .above j (omega arith) q))
 
 pub last-below : (f : ℕ → ℕ) (key n k : ℕ) → lastUpTo f key n ≡ At k → k < n
-unfolding lastUpTo hereOr
+unfolding lastUpTo either
 last-below f key zero k e = absurd (let z : _≡_ {A = ℕ} 0 1 = cc in omega arith)
 last-below f key (suc n) k e = go (leb (f n) key) refl (last-below f key n k)
   where

@@ -1,8 +1,9 @@
 -- Sequences of numbers: f 0, .., f (n - 1).
 use Prim.Native.Nat.{ℕ, zero, suc, _+_, _≤_, _<_}
-use mathlib.Core.Bool.{Bool, true, false, _&&_}
+use mathlib.Core.Bool.{Bool, true, _&&_}
 use mathlib.Core.Path.{_≡_}
 use lib.Dec.{leb, eqb}
+use Rattle.refusal.specs.Check.{either}
 use Rattle.seq.specs.declared.Position.{Position}
 use Rattle.seq.specs.declared.Position.the-variants.{At, Nowhere}
 
@@ -21,18 +22,14 @@ unfoldable pub rises : (least gap : ℕ) → (ℕ → ℕ) → (n : ℕ) → Boo
 rises least gap f n = every (λ k. leb (floor least gap f k) (f k)) n
 
 -- where a key is among them
-unfoldable pub hereOr : Bool → (k : ℕ) → Position → Position
-hereOr true k elsewhere = At k
-hereOr false k elsewhere = elsewhere
-
 unfoldable pub position : (ℕ → ℕ) → (key n : ℕ) → Position
 position f key zero = Nowhere
-position f key (suc n) = hereOr (eqb (f n) key) n (position f key n)
+position f key (suc n) = either (eqb (f n) key) (At n) (position f key n)
 
 -- where the last of them is that is not above a key
 unfoldable pub lastUpTo : (ℕ → ℕ) → (key n : ℕ) → Position
 lastUpTo f key zero = Nowhere
-lastUpTo f key (suc n) = hereOr (leb (f n) key) n (lastUpTo f key n)
+lastUpTo f key (suc n) = either (leb (f n) key) (At n) (lastUpTo f key n)
 
 -- as facts: they increase strictly; they do not fall
 abbrev pub Sorted : (ℕ → ℕ) → (n : ℕ) → Type 0

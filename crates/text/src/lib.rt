@@ -116,17 +116,17 @@ pub fn bytes<'a>(file: &'a [u8], text: Text, refusal: &mut u64) -> &'a [u8]
 }
 
 // Some bytes from a place on, as far as the file has them.
-pub fn part<'a>(file: &'a [u8], place: u64, length: u64) -> &'a [u8]
-    ensures { λ r. ⌜ now r ≡ take length (drop place (now (file .entry))) ⌝ }
+pub fn part<'a>(file: &'a [u8], place: u64, n: u64) -> &'a [u8]
+    ensures { λ r. ⌜ now r ≡ take n (drop place (now (file .entry))) ⌝ }
 {
-    let n = file.len() as u64;
-    if n <= place {
+    let size = file.len() as u64;
+    if size <= place {
         return &file[..0];
     }
     let from = place as usize;
-    if n - place <= length {
+    if size - place <= n {
         return &file[from..];
     }
-    let to = from + length as usize;
+    let to = from + n as usize;
     &file[from..to]
 }

@@ -4,9 +4,10 @@ use mathlib.Core.Bool.{Bool, true, false, true≢false}
 use mathlib.Core.Path.{_≡_, refl, sym, _∙_}
 use native.Mathlib.Omega.{arith}
 use borrow.Author.Count.{below-more, below-none}
+use Rattle.refusal.specs.Check.{either}
 use Rattle.float.specs.Float.{finite, less}
 use Rattle.float.proofs.Order.{less-not, less-same, not-less-trans}
-use Rattle.total.specs.Totals.{startOf, choose, stepOf, tallyTo, allFinite}
+use Rattle.total.specs.Totals.{startOf, stepOf, tallyTo, allFinite}
 use Rattle.total.proofs.Loop.{not-finite}
 
 -- id and v are those of entry j of n, the first of the best: none is better, and it is better than each one before
@@ -66,8 +67,8 @@ module _ (better : ℕ → ℕ → Bool) (o : Ordered better) (ids bits : ℕ �
               (λ no. o .through v (bits i) x q (fins i (omega arith)) p (f .none-better i l) no) e;
         }
 
-    chosen : (b : Bool) → better (bits n) v ≡ b → (k : ℕ) × First better ids bits (suc n) (choose b (ids n) id) (choose b (bits n) v) k
-    unfolding choose
+    chosen : (b : Bool) → better (bits n) v ≡ b → (k : ℕ) × First better ids bits (suc n) (either b (ids n) id) (either b (bits n) v) k
+    unfolding either
     chosen true e = (n, moves e)
     chosen false e = (j, stays e)
 

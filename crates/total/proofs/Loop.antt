@@ -1,18 +1,20 @@
 -- A loop over the entries, one at a time: what holds after k of them, from the first one to the answer.
 use Prim.Native.Nat.{ℕ, zero, suc, _+_, _-_, _≤_, _<_}
-use mathlib.Core.Bool.{Bool, true, false, _&&_, and-false}
+use mathlib.Core.Bool.{Bool, true, false, not, _&&_, and-false}
 use mathlib.Core.Logic.{_⊎_, inl, inr}
-use mathlib.Core.Path.{_≡_, refl, ap, _∙_}
+use mathlib.Core.Path.{_≡_, refl, sym, ap, _∙_}
 use native.Mathlib.Nat.{eq-or-lt-of-le, le-of-suc-le-suc}
 use native.Mathlib.Numerals.{add-one, sub-one}
 use native.Mathlib.Omega.{arith}
+use borrow.Author.Tests.{not-true, not-false}
 use lib.Ieee.{Float, binary64, ofBits, lt}
 use Rattle.refusal.specs.declared.Refusal.the-variants as No
+use Rattle.refusal.specs.Check.{either}
 use Rattle.float.specs.Float.{finite, less}
 use Rattle.float.proofs.Order.{less-not, not-less-trans}
 use Rattle.total.specs.declared.Tally.{Tally}
 use Rattle.total.specs.declared.Totals.the-variants.{Refused}
-use Rattle.total.specs.Totals.{startOf, choose, stepOf, tallyTo, allFinite, finish, totalsIf, totalsOf, Good}
+use Rattle.total.specs.Totals.{startOf, stepOf, tallyTo, allFinite, finish, totalsOf, Good}
 use Rattle.total.proofs.Tallies.{good-start, good-step, ordered-start, ordered-step}
 
 -- t has the first k of n entries; low and high are its smallest and greatest as floats
@@ -47,10 +49,13 @@ module _ (ids bits : ℕ → ℕ) where
   tally-more zero h = absurd (omega arith)
   tally-more (suc k) h = rw sub-one
 
-  totals-of : (n : ℕ) → 0 < n → totalsOf ids bits n ≡ totalsIf (allFinite bits n) (finish n (tallyTo ids bits (n - 1)))
+  totals-of : (n : ℕ) → 0 < n → totalsOf ids bits n ≡ either (allFinite bits n) (finish n (tallyTo ids bits (n - 1))) (Refused No.NotFinite)
   unfolding totalsOf
   totals-of zero h = absurd (omega arith)
   totals-of (suc n) h = rw sub-one
+
+pub finite-told : (v : ℕ) {t : Bool} → t ≡ finite v → not t ≡ false → finite v ≡ true
+finite-told v {t} f h = sym f ∙ not-false t h
 
 module _ (ids bits : ℕ → ℕ) (n : ℕ) where
   pub summing-start : {id v : ℕ} → 0 < n → id ≡ ids 0 → v ≡ bits 0 → finite v ≡ true
@@ -67,12 +72,15 @@ module _ (ids bits : ℕ → ℕ) (n : ℕ) where
     greatest = refl;
   }
 
-  pub summing-not : (k : ℕ) → k < n → finite (bits k) ≡ false → totalsOf ids bits n ≡ Refused No.NotFinite
-  unfolding totalsIf
-  summing-not k l h = totals-of ids bits n (omega arith) ∙ rw (not-finite bits n k l h)
+  -- by a test of what was read there
+  pub summing-not : {t : Bool} {v k : ℕ} → k < n → v ≡ bits k → t ≡ finite v → not t ≡ true → Refused No.NotFinite ≡ totalsOf ids bits n
+  unfolding either
+  summing-not {t} {v} {k} l e f h =
+      let no : finite (bits k) ≡ false = sym (f ∙ ap finite e) ∙ not-true t h in
+      sym (totals-of ids bits n (omega arith) ∙ rw (not-finite bits n k l no))
 
   pub summing-all : {t : Tally} {low high : Float} {k : ℕ} → Summing ids bits n t low high k → n ≤ k → totalsOf ids bits n ≡ finish n t
-  unfolding totalsIf
+  unfolding either
   summing-all {k = k} s l =
       let e : k ≡ n = omega (arith, s .within) in
       let f : allFinite bits n ≡ true = rw e at (s .finites) in
@@ -110,15 +118,15 @@ module _ {ids bits : ℕ → ℕ} {n : ℕ} {t : Tally} {low high : Float} {k : 
         }
 
     pub summing-raise : {id : ℕ} → id ≡ ids k → lt high (ofBits binary64 v) ≡ true → Summing ids bits n (stepOf t id v) low (ofBits binary64 v) (k + 1)
-    unfolding stepOf choose
+    unfolding stepOf either
     summing-raise i a = let c = above a in more i (rw (c .1) (s .smallest)) (rw (c .0) refl)
 
     pub summing-lower : {id : ℕ} → id ≡ ids k → lt high (ofBits binary64 v) ≡ false → lt (ofBits binary64 v) low ≡ true
         → Summing ids bits n (stepOf t id v) (ofBits binary64 v) high (k + 1)
-    unfolding stepOf choose
+    unfolding stepOf either
     summing-lower i a b = let c = not-above a b in more i (rw (c .1) refl) (rw (c .0) (s .greatest))
 
     pub summing-add : {r : Tally} → ((id : ℕ) → r ≡ stepOf t id v) → lt high (ofBits binary64 v) ≡ false → lt (ofBits binary64 v) low ≡ false
         → Summing ids bits n r low high (k + 1)
-    unfolding stepOf choose
+    unfolding stepOf either
     summing-add r a b = let c = not-above a b in rw (r (ids k)) (more refl (rw (c .1) (s .smallest)) (rw (c .0) (s .greatest)))

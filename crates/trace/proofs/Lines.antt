@@ -1,13 +1,12 @@
 -- What the tests of a line say, and that a line which passed them has its samples in the file, in order.
-use Prim.Native.Nat.{ℕ, _+_, _-_, _*_, _/_, _%_, _≤_, _<_}
+use Prim.Native.Nat.{ℕ, _+_, _-_, _*_, _≤_, _<_}
 use mathlib.Core.Bool.{Bool, true, false, _&&_, and-false}
 use mathlib.Core.List.{List, [], _∷_}
-use mathlib.Core.Path.{_≡_, refl, sym, ap, _∙_}
+use mathlib.Core.Path.{_≡_, refl, sym, ap}
 use native.Mathlib.Nat.{mul-one}
 use native.Mathlib.Omega.{arith}
-use borrow.Author.Tests.{leb-true, leb-false, le-leb, lt-leb, ltb-true, lt-ltb, le-ltb}
-use lib.Dec.{ltb, leb}
-use lib.ListN.{length}
+use borrow.Author.Tests.{leb-true, leb-false, le-leb, lt-leb}
+use lib.Dec.{leb}
 use Rattle.range.specs.Range.{multiple}
 use Rattle.range.proofs.Tests.{both}
 use Rattle.refusal.specs.declared.Refusal.the-variants as No
@@ -16,11 +15,12 @@ use Rattle.refusal.specs.declared.Check.the-variants as Check
 use Rattle.refusal.specs.Check.{rule, first, ifPassed}
 use Rattle.refusal.proofs.Checks.{rule-passes, first-passes}
 use Rattle.open.specs.Format as Format
-use Rattle.open.specs.Opening.{opening, pairs, placeIn}
+use Rattle.open.specs.Names as Section
+use Rattle.open.specs.Opening.{opening, pairs, onOpened}
 use Rattle.array.specs.declared.Element.{Element}
 use Rattle.array.specs.declared.Element.the-variants as Element
 use Rattle.array.specs.Element.{elementAt, onElement}
-use Rattle.array.specs.Stored.{infosArray}
+use Rattle.array.specs.Stored.{arrayIn}
 use Rattle.outside.specs.Outside.{lies}
 use Rattle.outside.proofs.Apart.{lies-ends, lies-one}
 use Rattle.seq.specs.Sequence.{rises}
@@ -28,8 +28,8 @@ use Rattle.seq.proofs.Rising.{rises-nondecreasing}
 use Rattle.le.specs.Number.{number}
 use Rattle.trace.specs.declared.Line.{Line}
 use Rattle.trace.specs.declared.Line.the-variants.{Of, Refused}
-use Rattle.trace.specs.Trace.{timeAt, lineRule, samplesOf, leastGap, lineCheck, lineOf, lineIn, lineAt, sampleIn, Samples, Ordered}
-use Rattle.trace.specs.declared.Sample.the-variants as Sample
+use Rattle.trace.specs.Trace.{timeAt, lineRule, samplesOf, leastGap, lineCheck, lineOf, lineIn, lineAt}
+use Rattle.trace.specs.Sound.{SamplesInside, SoundSamples}
 
 -- a gap is compared with the difference
 pub leb-shift : (time last gap : ℕ) → last ≤ time → leb gap (time - last) ≡ leb (last + gap) time
@@ -51,12 +51,12 @@ module _ (file : List ℕ) (sections : List (List ℕ)) (start end : ℕ) where
       let q = both (leb start end && multiple (end - start) 12) _ .0 p in
       leb-true start end (both (leb start end) _ .0 (q .0) .0)
 
-  pub rule-ends : lineRule file sections start end ≡ true → Samples file start (samplesOf start end)
+  pub rule-ends : lineRule file sections start end ≡ true → SamplesInside file start (samplesOf start end)
   unfolding lineRule
   rule-ends e =
       let p = both (multiple start 8 && multiple end 4) _ .0 e .1 in
       let q = both (leb start end && multiple (end - start) 12) _ .0 p in
-      record { room = omega (arith, lies-ends file sections (Format.trace .header) start (end - start) (q .1)) }
+      record { ends = omega (arith, lies-ends file sections (Format.trace .header) start (end - start) (q .1)) }
 
   pub range-broken : lineRule file sections start end ≡ false → (profile : ℕ) → Refused No.Array ≡ lineOf file sections profile start end
   unfolding lineOf lineCheck rule first ifPassed
@@ -93,12 +93,12 @@ samples-of (Of profile place samples) = samples
 samples-of (Refused r) = 0
 
 module _ (file : List ℕ) (sections : List (List ℕ)) (profile place samples : ℕ) where
-  of-ordered : (number start end : ℕ) → lineOf file sections number start end ≡ Of profile place samples → Ordered file place samples
+  of-sound : (owner start end : ℕ) → lineOf file sections owner start end ≡ Of profile place samples → SoundSamples file place samples
   unfolding lineOf ifPassed tag place-of samples-of lineCheck
-  of-ordered number start end = go (lineCheck file sections start end) refl
+  of-sound owner start end = go (lineCheck file sections start end) refl
     where
-      go : (c : Check) → lineCheck file sections start end ≡ c → ifPassed Refused c (Of number start (samplesOf start end)) ≡ Of profile place samples
-          → Ordered file place samples
+      go : (c : Check) → lineCheck file sections start end ≡ c → ifPassed Refused c (Of owner start (samplesOf start end)) ≡ Of profile place samples
+          → SoundSamples file place samples
       go Check.Passed p e =
           let t = first-passes (rule (lineRule file sections start end) No.Array)
           (rule (rises 0 leastGap (timeAt file start) (samplesOf start end)) No.Order) .0 p in
@@ -109,18 +109,17 @@ module _ (file : List ℕ) (sections : List (List ℕ)) (profile place samples :
           })
       go (Check.Refused r) p e = absurd (omega (arith, ap tag e))
 
-  element-ordered : (e : Element)
+  element-sound : (e : Element)
       → onElement Refused e (λ at. lineOf file sections (number 4 file at) (number 8 file (at + 8)) (number 8 file (at + 16))) ≡ Of profile place samples
-      → Ordered file place samples
+      → SoundSamples file place samples
   unfolding onElement tag
-  element-ordered (Element.At at) e = of-ordered (number 4 file at) (number 8 file (at + 8)) (number 8 file (at + 16)) e
-  element-ordered (Element.Refused r) e = absurd (omega (arith, ap tag e))
+  element-sound (Element.At at) e = of-sound (number 4 file at) (number 8 file (at + 8)) (number 8 file (at + 16)) e
+  element-sound (Element.Refused r) e = absurd (omega (arith, ap tag e))
 
-pub line-ordered : (file : List ℕ) (i profile place samples : ℕ) → lineAt file i ≡ Of profile place samples → Ordered file place samples
-unfolding lineAt lineIn ifPassed tag
-line-ordered file i profile place samples = go (opening Format.trace file)
+pub line-sound : (file : List ℕ) (i profile place samples : ℕ) → lineAt file i ≡ Of profile place samples → SoundSamples file place samples
+unfolding lineAt onOpened lineIn ifPassed tag
+line-sound file i profile place samples = go (pairs Format.trace file) (opening Format.trace file)
   where
-    go : (c : Check) → ifPassed Refused c (lineIn file (pairs Format.trace file) i) ≡ Of profile place samples → Ordered file place samples
-    go Check.Passed e =
-        element-ordered file (pairs Format.trace file) profile place samples (elementAt (infosArray file (placeIn (pairs Format.trace file) 0)) i) e
-    go (Check.Refused r) e = absurd (omega (arith, ap tag e))
+    go : (ps : List (List ℕ)) (c : Check) → ifPassed Refused c (lineIn file ps i) ≡ Of profile place samples → SoundSamples file place samples
+    go ps Check.Passed e = element-sound file ps profile place samples (elementAt (arrayIn Format.trace file ps Section.infos) i) e
+    go ps (Check.Refused r) e = absurd (omega (arith, ap tag e))

@@ -1,23 +1,23 @@
 -- Trace lines of trace.db: samples of 12 bytes, each a u64 timestamp and a u32 context.
-use Prim.Native.Nat.{ℕ, _+_, _-_, _*_, _/_, _≤_}
+use Prim.Native.Nat.{ℕ, _+_, _-_, _*_, _/_}
 use mathlib.Core.Bool.{Bool, _&&_}
 use mathlib.Core.List.{List, [], _∷_}
 use lib.Dec.{ltb, leb}
-use lib.ListN.{length}
 use Rattle.le.specs.Number.{number}
 use Rattle.range.specs.Range.{multiple}
 use Rattle.refusal.specs.declared.Refusal.{Refusal}
 use Rattle.refusal.specs.declared.Refusal.the-variants as No
 use Rattle.refusal.specs.declared.Check.{Check}
 use Rattle.refusal.specs.Check.{rule, first, ifPassed}
-use Rattle.refusal.specs.Number.{numberOf}
+use Rattle.refusal.specs.Words.{refusedWords}
 use Rattle.open.specs.Format as Format
-use Rattle.open.specs.Opening.{opening, pairs, placeIn}
+use Rattle.open.specs.Names as Section
+use Rattle.open.specs.Opening.{onOpened}
 use Rattle.array.specs.Element.{elementAt, onElement}
-use Rattle.array.specs.Stored.{infosArray}
+use Rattle.array.specs.Stored.{arrayIn}
 use Rattle.seq.specs.declared.Position.{Position}
 use Rattle.seq.specs.declared.Position.the-variants.{At, Nowhere}
-use Rattle.seq.specs.Sequence.{rises, lastUpTo, NonDecreasing}
+use Rattle.seq.specs.Sequence.{rises, lastUpTo}
 use Rattle.outside.specs.Outside.{lies}
 use Rattle.trace.specs.declared.Line.{Line}
 use Rattle.trace.specs.declared.Line.the-variants as Line
@@ -56,11 +56,11 @@ lineOf file sections profile start end = ifPassed Line.Refused (lineCheck file s
 -- by position: 15, then 7, then 11
 unfoldable pub lineIn : List ℕ → (sections : List (List ℕ)) → (i : ℕ) → Line
 lineIn file sections i =
-    onElement Line.Refused (elementAt (infosArray file (placeIn sections 0)) i)
+    onElement Line.Refused (elementAt (arrayIn Format.trace file sections Section.infos) i)
     (λ at. lineOf file sections (number 4 file at) (number 8 file (at + 8)) (number 8 file (at + 16)))
 
 unfoldable pub lineAt : List ℕ → (i : ℕ) → Line
-lineAt file i = ifPassed Line.Refused (opening Format.trace file) (lineIn file (pairs Format.trace file) i)
+lineAt file i = onOpened Line.Refused Format.trace file (λ ps. lineIn file ps i)
 
 -- ---- its samples
 
@@ -94,25 +94,14 @@ lastAt file i time = onLine Sample.Refused (lineAt file i) (λ place samples. la
 
 unfoldable pub lineWords : Line → List ℕ
 lineWords (Line.Of profile place samples) = 0 ∷ profile ∷ samples ∷ []
-lineWords (Line.Refused r) = numberOf r ∷ 0 ∷ 0 ∷ []
+lineWords (Line.Refused r) = refusedWords r
 
 unfoldable pub sampleWords : Sample → List ℕ
 sampleWords (Sample.At position time context) = 0 ∷ time ∷ context ∷ []
-sampleWords Sample.Absent = 100 ∷ 0 ∷ 0 ∷ []
-sampleWords (Sample.Refused r) = numberOf r ∷ 0 ∷ 0 ∷ []
+sampleWords Sample.Absent = 100 ∷ []
+sampleWords (Sample.Refused r) = refusedWords r
 
 unfoldable pub lastWords : Sample → List ℕ
 lastWords (Sample.At position time context) = 0 ∷ position ∷ time ∷ context ∷ []
-lastWords Sample.Absent = 100 ∷ 0 ∷ 0 ∷ 0 ∷ []
-lastWords (Sample.Refused r) = numberOf r ∷ 0 ∷ 0 ∷ 0 ∷ []
-
--- ---- what the code below these rules relies on
-
--- samples inside the file
-pub record Samples (file : List ℕ) (place n : ℕ) : Type 0 where
-  pub room : place + n * 12 ≤ length file
-
--- and in order
-pub record Ordered (file : List ℕ) (place n : ℕ) : Type 0 where
-  pub samples : Samples file place n
-  pub times : NonDecreasing (timeAt file place) n
+lastWords Sample.Absent = 100 ∷ []
+lastWords (Sample.Refused r) = refusedWords r

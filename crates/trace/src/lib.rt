@@ -5,11 +5,14 @@ ghost use mathlib.Core.Path.{_≡_};
 ghost use Prim.Native.Nat.{_+_, _-_, _*_, _≤_, _<_};
 ghost use lib.Dec.{leb};
 ghost use lib.ListN.{length, getD};
+ghost use Rattle.open.specs.Format.{infosArray};
 ghost use Rattle.array.specs.Element.{Bounded};
-ghost use Rattle.array.specs.Stored.{infosArray};
+ghost use Rattle.array.specs.Stored.{arrayOf};
 ghost use Rattle.seq.specs.Sequence.{rises, lastUpTo};
-ghost use Rattle.trace.specs.Trace.{timeAt, lineRule, lineOf, lineIn, lineAt, sampleOf, sampleIn, sampleAt, lastIn, lastAt, Samples, Ordered};
+ghost use Rattle.trace.specs.Trace.{timeAt, lineRule, lineOf, lineIn, lineAt, sampleOf, sampleIn, sampleAt, lastIn, lastAt};
+ghost use Rattle.trace.specs.Sound.{SamplesInside, SoundSamples};
 use array::Element;
+use open::INFOS;
 use refusal::Check;
 use refusal::Refusal;
 use seq::Position;
@@ -40,7 +43,7 @@ pub enum Sample {
 
 // Sample k of n at a place: its timestamp, and all of it.
 fn time_at(file: &[u8], place: u64, n: u64, k: u64) -> u64
-    requires { ⌜ Samples (now file) place n ⌝ }
+    requires { ⌜ SamplesInside (now file) place n ⌝ }
     requires { ⌜ k < n ⌝ }
     ensures { λ r. ⌜ r ≡ timeAt (now (file .entry)) place k ⌝ }
 {
@@ -48,7 +51,7 @@ fn time_at(file: &[u8], place: u64, n: u64, k: u64) -> u64
 }
 
 fn sample_of(file: &[u8], place: u64, n: u64, k: u64) -> Sample
-    requires { ⌜ Samples (now file) place n ⌝ }
+    requires { ⌜ SamplesInside (now file) place n ⌝ }
     requires { ⌜ k < n ⌝ }
     ensures { λ r. ⌜ r ≡ sampleOf (now (file .entry)) place k ⌝ }
 {
@@ -86,7 +89,7 @@ fn follows(time: u64, last: u64, gap: u64) -> bool
 
 // Whether each of the four timestamps after timestamp k is a gap above the one before it: one branch for the four.
 fn four_rise(file: &[u8], place: u64, n: u64, k: u64, gap: u64) -> bool
-    requires { ⌜ Samples (now file) place n ⌝ }
+    requires { ⌜ SamplesInside (now file) place n ⌝ }
     requires { ⌜ k + 4 < n ⌝ }
     ensures { λ r. ⌜ (r ≡ true → rises 0 gap (timeAt (now (file .entry)) place) (k + 1) ≡ true → rises 0 gap (timeAt (now (file .entry)) place) (k + 5) ≡ true) ⌝ }
 {
@@ -101,7 +104,7 @@ fn four_rise(file: &[u8], place: u64, n: u64, k: u64, gap: u64) -> bool
 
 // Timestamp k is the last that is known to rise: as far as steps of four tell.
 fn rise_by_fours(file: &[u8], place: u64, n: u64, gap: u64) -> u64
-    requires { ⌜ Samples (now file) place n ⌝ }
+    requires { ⌜ SamplesInside (now file) place n ⌝ }
     requires { ⌜ 0 < n ⌝ }
     ensures { λ r. ⌜ r < n ⌝ }
     ensures { λ r. ⌜ rises 0 gap (timeAt (now (file .entry)) place) (r + 1) ≡ true ⌝ }
@@ -118,7 +121,7 @@ fn rise_by_fours(file: &[u8], place: u64, n: u64, gap: u64) -> u64
 
 // 11, of n samples.
 fn times_rise(file: &[u8], place: u64, n: u64, gap: u64) -> bool
-    requires { ⌜ Samples (now file) place n ⌝ }
+    requires { ⌜ SamplesInside (now file) place n ⌝ }
     ensures { λ r. ⌜ r ≡ rises 0 gap (timeAt (now (file .entry)) place) n ⌝ }
 {
     if n == 0 {
@@ -157,7 +160,7 @@ fn line_of(file: &[u8], section: [u64; 2], profile: u64, start: u64, end: u64) -
 }
 
 fn line_in(file: &[u8], section: [u64; 2], i: u64) -> Line
-    requires { ⌜ Bounded (infosArray (now file) (getD section 0 0)) ⌝ }
+    requires { ⌜ Bounded (arrayOf (now file) (getD section 0 0) infosArray) ⌝ }
     requires { ⌜ getD section 0 0 + 13 ≤ length (now file) ⌝ }
     ensures { λ r. ⌜ r ≡ lineIn (now (file .entry)) (section ∷ []) i ⌝ }
 {
@@ -180,13 +183,13 @@ pub fn line_at(file: &[u8], i: u64) -> Line
     let sections = open::single_section(file);
     let check = open::check_trace(file, sections);
     match check {
-        Check::Passed => line_in(file, sections[0], i),
+        Check::Passed => line_in(file, sections[INFOS], i),
         Check::Refused(r) => Line::Refused(r),
     }
 }
 
 fn sample_in(file: &[u8], place: u64, samples: u64, k: u64) -> Sample
-    requires { ⌜ Samples (now file) place samples ⌝ }
+    requires { ⌜ SamplesInside (now file) place samples ⌝ }
     ensures { λ r. ⌜ r ≡ sampleIn (now (file .entry)) place samples k ⌝ }
 {
     if samples <= k {
@@ -212,7 +215,7 @@ pub fn sample_at(file: &[u8], i: u64, k: u64) -> Sample
 
 // Where the last of n samples is that is not later than a time, by halving.
 fn last_until(file: &[u8], place: u64, n: u64, time: u64) -> Position
-    requires { ⌜ Ordered (now file) place n ⌝ }
+    requires { ⌜ SoundSamples (now file) place n ⌝ }
     ensures { λ r. ⌜ r ≡ lastUpTo (timeAt (now (file .entry)) place) time n ⌝ }
 {
     let mut low = 0;
@@ -233,7 +236,7 @@ fn last_until(file: &[u8], place: u64, n: u64, time: u64) -> Position
 }
 
 fn last_in(file: &[u8], place: u64, samples: u64, time: u64) -> Sample
-    requires { ⌜ Ordered (now file) place samples ⌝ }
+    requires { ⌜ SoundSamples (now file) place samples ⌝ }
     ensures { λ r. ⌜ r ≡ lastIn (now (file .entry)) place samples time ⌝ }
 {
     let Position::At(k) = last_until(file, place, samples, time) else {

@@ -5,7 +5,7 @@ use mathlib.Core.Path.{_≡_, refl, sym, ap, _∙_}
 use native.Mathlib.Omega.{arith}
 use lib.ListN.{length, take, drop, length-append, take-append-drop}
 use lib.Seq.{take-append-le, take-append-add}
-use Rattle.traversal.specs.More.{Begins}
+use Rattle.traversal.specs.Demand3.{Begins}
 
 module _ {A : Type 0} where
   pub begins-refl : (a : List A) → Begins a a

@@ -1,5 +1,5 @@
 -- A traversal with room for n contexts is as much of the whole one as n words have room for.
-use Prim.Native.Nat.{ℕ, zero, suc, _+_, _-_, _≤_, _<_}
+use Prim.Native.Nat.{ℕ, _≤_, _<_}
 use mathlib.Core.Bool.{Bool, true, false}
 use mathlib.Core.List.{List, [], _∷_, _++_}
 use mathlib.Core.Path.{_≡_, refl, sym, ap, _∙_}
@@ -11,14 +11,14 @@ use lib.Seq.{take-at, take-all}
 use Rattle.refusal.specs.Check.{either}
 use Rattle.refusal.specs.declared.Check.{Check}
 use Rattle.refusal.specs.declared.Check.the-variants.{Passed, Refused}
-use Rattle.open.specs.Opening.{field}
-use Rattle.context.specs.Context.{Targets, childrenPlace, childrenBytes, extent}
-use Rattle.context.specs.Entry.{Entry, entryAt}
-use Rattle.traversal.specs.More.{Begins}
-use Rattle.traversal.specs.Traversal.{Outcome, on, cut, refused, listOf, Parameters, visitCheck, enter, Down, visit, bind, turn, siblings, level}
+use Rattle.context.specs.Context.{Targets}
+use Rattle.context.specs.Entry.{Entry}
+use Rattle.traversal.specs.Demand3.{Begins}
+use Rattle.traversal.specs.Traversal.{Asked, Outcome, on, cut, refused, listOf, endless, limited, visitCheck, enter, bind, level}
 use Rattle.traversal.specs.Walk.{truncate}
-use Rattle.traversal.proofs.Begins.{begins-refl, begins-length, take-begins}
-use Rattle.traversal.proofs.Grows.{Grows, GrowsDown, grows-siblings, grows-level}
+use Rattle.traversal.proofs.Begins.{begins-length, take-begins}
+use Rattle.traversal.proofs.Grows.{Grows}
+use Rattle.traversal.proofs.Alike.{alike-level}
 
 pub truncate-short : (n : ℕ) (o : Outcome) → length (listOf o) ≤ n → truncate n o ≡ o
 unfolding truncate either
@@ -40,9 +40,6 @@ list-truncate n o = go (leb (length (listOf o)) n) refl
 module _ (n : ℕ) where
   abbrev Cuts : (List Entry → Outcome) → (List Entry → Outcome) → Type 0
   Cuts F G = (l : List Entry) → length l ≤ n → G l ≡ truncate n (F l)
-
-  abbrev CutsDown : Down → Down → Type 0
-  CutsDown down down' = (parent : ℕ) (path : List ℕ) (from stop : ℕ) → Cuts (down parent path from stop) (down' parent path from stop)
 
   -- once there are more, only the first n count
   past : (l : List Entry) (o : Outcome) → n < length l → Begins l (listOf o) → truncate n o ≡ cut (take n l)
@@ -90,43 +87,15 @@ module _ (n : ℕ) where
           ∙ sym (past (l ++ (x ∷ [])) (K (l ++ (x ∷ []))) (omega (arith, ltb-false (length l) n e, length-append l (x ∷ []))) (g (l ++ (x ∷ []))))
   cuts-enter (Refused r) K K' l x g h k = sym (truncate-short n (refused r l) k)
 
-  cuts-turn : (b : Bool) (H H' K K' : List Entry → Outcome) → Grows K → Cuts H H' → Cuts K K' → Cuts (turn b H K) (turn b H' K')
-  unfolding turn
-  cuts-turn false H H' K K' g h k l m = sym (truncate-short n (on l) m)
-  cuts-turn true H H' K K' g h k l m = ap (λ (o : Outcome). bind o K') (h l m) ∙ cuts-bind (H l) K K' g k
-
-  module _ (f : List ℕ) (t : Targets) (slots limit : ℕ) where
-    abbrev whole : Parameters
-    whole = record { file = f; targets = t; slots = slots; limit = limit; free = λ l. true }
-
-    abbrev limited : Parameters
-    limited = record { file = f; targets = t; slots = slots; limit = limit; free = λ l. ltb (length l) n }
-
-    cuts-visit : (down down' : Down) → GrowsDown down → CutsDown down down' → (parent : ℕ) (path : List ℕ) (p stop : ℕ)
-        → Cuts (visit whole down parent path p stop) (visit limited down' parent path p stop)
-    unfolding visit visitCheck
-    cuts-visit down down' g h parent path p stop l k =
-        cuts-enter (visitCheck whole path p stop l)
-        (down p path (field f p childrenPlace) (field f p childrenPlace + field f p childrenBytes))
-        (down' p path (field f p childrenPlace) (field f p childrenPlace + field f p childrenBytes))
-        l (entryAt f parent path p) (g _ _ _ _) (h _ _ _ _) k
-
-    cuts-siblings : (down down' : Down) → GrowsDown down → CutsDown down down' → (parent : ℕ) (ups : List ℕ) (bound i p stop : ℕ)
-        → Cuts (siblings whole down parent ups bound i p stop) (siblings limited down' parent ups bound i p stop)
-    unfolding siblings
-    cuts-siblings down down' g h parent ups zero i p stop l m = sym (truncate-short n (on l) m)
-    cuts-siblings down down' g h parent ups (suc bound) i p stop l m =
-        cuts-turn (ltb p stop) (visit whole down parent (ups ++ (i ∷ [])) p stop) (visit limited down' parent (ups ++ (i ∷ [])) p stop)
-        (λ m. siblings whole down parent ups bound (suc i) (p + extent f p) stop m)
-        (λ m. siblings limited down' parent ups bound (suc i) (p + extent f p) stop m)
-        (grows-siblings whole down g parent ups bound (suc i) (p + extent f p) stop)
-        (cuts-visit down down' g h parent (ups ++ (i ∷ [])) p stop)
-        (cuts-siblings down down' g h parent ups bound (suc i) (p + extent f p) stop) l m
-
-    pub cuts-level : (left : ℕ) → CutsDown (level whole left) (level limited left)
-    unfolding level
-    cuts-level zero parent ups from stop =
-        cuts-siblings (λ a path f s m. on m) (λ a path f s m. on m) (λ a path f s m. begins-refl m)
-        (λ a path f s m k. sym (truncate-short n (on m) k)) parent ups (stop - from) 0 from stop
-    cuts-level (suc left) parent ups from stop =
-        cuts-siblings (level whole left) (level limited left) (grows-level whole left) (cuts-level left) parent ups (stop - from) 0 from stop
+-- the traversal as far as the listing has words is the whole one truncated
+pub cuts-level : (a : Asked) (t : Targets) (levels parent : ℕ) (path : List ℕ) (from stop : ℕ) (l : List Entry) → length l ≤ a .lent .listing
+    → level (limited a t) levels parent path from stop l ≡ truncate (a .lent .listing) (level (endless a t) levels parent path from stop l)
+unfolding visitCheck
+cuts-level a t =
+    alike-level (a .file) t (a .lent) (a .lent) (λ l. true) (λ l. ltb (length l) (a .lent .listing)) (λ l. length l ≤ a .lent .listing)
+    (λ o o'. o' ≡ truncate (a .lent .listing) o)
+    (record {
+      stay = λ l h. sym (truncate-short (a .lent .listing) (on l) h);
+      follow = λ o o' K K' g g' e k. ap (λ (x : Outcome). bind x K') e ∙ cuts-bind (a .lent .listing) o K K' g k;
+      entered = λ path p stop l e K K' g g' h k. cuts-enter (a .lent .listing) (visitCheck (endless a t) path p stop l) K K' l e g k h;
+    })

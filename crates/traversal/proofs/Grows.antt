@@ -1,17 +1,16 @@
--- Every part of a traversal keeps the contexts before it.
-use Prim.Native.Nat.{ℕ, zero, suc, _+_, _-_}
-use mathlib.Core.Bool.{Bool, true, false}
-use mathlib.Core.List.{List, [], _∷_, _++_}
-use lib.Dec.{ltb}
-use lib.ListN.{length}
-use Rattle.refusal.specs.declared.Check.{Check}
-use Rattle.refusal.specs.declared.Check.the-variants.{Passed, Refused}
-use Rattle.open.specs.Opening.{field}
-use Rattle.context.specs.Context.{childrenPlace, childrenBytes, extent}
-use Rattle.context.specs.Entry.{Entry, entryAt}
-use Rattle.traversal.specs.More.{Begins}
-use Rattle.traversal.specs.Traversal.{Outcome, on, cut, refused, listOf, Parameters, visitCheck, enter, Down, visit, bind, turn, siblings, level}
+-- Every part of a traversal keeps the contexts before it; one with room for every context is never cut.
+use Prim.Native.Nat.{ℕ}
+use mathlib.Core.Bool.{Bool, true, false, true≢false}
+use mathlib.Core.List.{List, []}
+use mathlib.Core.Path.{_≡_, refl}
+use Rattle.open.specs.Format.{meta}
+use Rattle.open.specs.Opening.{pairs}
+use Rattle.context.specs.Context.{targetsOf}
+use Rattle.context.specs.Entry.{Entry}
+use Rattle.traversal.specs.Demand3.{Begins}
+use Rattle.traversal.specs.Traversal.{Asked, Outcome, on, cut, refused, listOf, Parameters, endless, Down, bind, siblings, level, traversal}
 use Rattle.traversal.proofs.Begins.{begins-refl, begins-trans, begins-snoc}
+use Rattle.traversal.proofs.Keeps.{Fact, Kept, After, somewhere, keeps-siblings, keeps-level, keeps-traversal}
 
 abbrev pub Grows : (List Entry → Outcome) → Type 0
 Grows F = (l : List Entry) → Begins l (listOf (F l))
@@ -25,37 +24,43 @@ grows-bind (on l) K g = g l
 grows-bind (cut l) K g = begins-refl l
 grows-bind (refused r l) K g = begins-refl l
 
-grows-enter : (v : Check) (b : Bool) (K : List Entry → Outcome) (l : List Entry) (e : Entry) → Grows K → Begins l (listOf (enter v b K l e))
-unfolding enter
-grows-enter Passed true K l e g = begins-trans l (l ++ (e ∷ [])) _ (begins-snoc l e) (g (l ++ (e ∷ [])))
-grows-enter Passed false K l e g = begins-refl l
-grows-enter (Refused r) b K l e g = begins-refl l
-
-grows-turn : (b : Bool) (H K : List Entry → Outcome) → Grows H → Grows K → Grows (turn b H K)
-unfolding turn
-grows-turn false H K h k l = begins-refl l
-grows-turn true H K h k l = begins-trans l (listOf (H l)) _ (h l) (grows-bind (H l) K k)
+-- what begins with l, wherever on the way
+abbrev From : List Entry → Fact
+From l ups i m = Begins l m
 
 module _ (E : Parameters) where
-  pub grows-visit : (down : Down) → GrowsDown down → (parent : ℕ) (path : List ℕ) (p stop : ℕ) → Grows (visit E down parent path p stop)
-  unfolding visit
-  grows-visit down g parent path p stop l =
-      grows-enter (visitCheck E path p stop l) (E .free l)
-      (down p path (field (E .file) p childrenPlace) (field (E .file) p childrenPlace + field (E .file) p childrenBytes))
-      l (entryAt (E .file) parent path p) (g _ _ _ _)
+  from-kept : (l : List Entry) → Kept E (From l)
+  from-kept l = record {
+    enters = λ parent ups i p stop m v h. begins-trans l m _ h (begins-snoc m _);
+    leaves = λ ups i j m h. h;
+  }
 
-  pub grows-siblings : (down : Down) → GrowsDown down → (parent : ℕ) (ups : List ℕ) (bound i p stop : ℕ)
-      → Grows (siblings E down parent ups bound i p stop)
-  unfolding siblings
-  grows-siblings down g parent ups zero i p stop l = begins-refl l
-  grows-siblings down g parent ups (suc bound) i p stop l =
-      grows-turn (ltb p stop) (visit E down parent (ups ++ (i ∷ [])) p stop)
-      (λ m. siblings E down parent ups bound (suc i) (p + extent (E .file) p) stop m)
-      (grows-visit down g parent (ups ++ (i ∷ [])) p stop)
-      (grows-siblings down g parent ups bound (suc i) (p + extent (E .file) p) stop) l
+  ends : (l : List Entry) (ups : List ℕ) (o : Outcome) → After E (From l) ups o → Begins l (listOf o)
+  ends l ups o h = somewhere E (From l) ups o h .1 .1
 
-  pub grows-level : (left : ℕ) → GrowsDown (level E left)
-  unfolding level
-  grows-level zero parent ups from stop =
-      grows-siblings (λ a path f s m. on m) (λ a path f s m. begins-refl m) parent ups (stop - from) 0 from stop
-  grows-level (suc left) parent ups from stop = grows-siblings (level E left) (grows-level left) parent ups (stop - from) 0 from stop
+  pub grows-level : (levels : ℕ) → GrowsDown (level E levels)
+  grows-level levels parent path from stop l =
+      ends l path (level E levels parent path from stop l)
+      (keeps-level E (From l) (from-kept l) levels parent path from stop l (begins-refl l))
+
+  pub grows-siblings : (levels parent : ℕ) (ups : List ℕ) (bound i p stop : ℕ) → Grows (siblings E (level E levels) parent ups bound i p stop)
+  grows-siblings levels parent ups bound i p stop l =
+      ends l ups (siblings E (level E levels) parent ups bound i p stop l) (keeps-siblings E (From l) (from-kept l) (level E levels) (keeps-level E (From l) (from-kept l) levels) parent ups bound i p stop l
+      (begins-refl l))
+
+-- ---- cut or not
+
+abbrev pub isCut : Outcome → Bool
+isCut (on l) = false
+isCut (cut l) = true
+isCut (refused r l) = false
+
+pub never-cut : (a : Asked) → isCut (traversal a) ≡ false
+never-cut a =
+    let E = endless a (targetsOf (a .file) (pairs meta (a .file))) in
+    go (traversal a) (keeps-traversal a (λ ups i l. Unit {0}) (record { enters = λ parent ups i p stop l v h. tt; leaves = λ ups i j l h. tt }) tt)
+  where
+    go : (o : Outcome) → After (endless a (targetsOf (a .file) (pairs meta (a .file)))) (λ ups i l. Unit {0}) [] o → isCut o ≡ false
+    go (on l) h = refl
+    go (cut l) h = absurd (true≢false (h .0))
+    go (refused r l) h = refl

@@ -1,7 +1,10 @@
 pub mod Begins
+pub mod Steps
+pub mod Keeps
 pub mod Grows
+pub mod Alike
 pub mod Cut
 pub mod Wider
-pub mod Whole
-pub mod Number
-pub mod Demand
+pub mod Table
+pub mod Ids
+pub mod Demand3

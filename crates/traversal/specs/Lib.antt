@@ -1,3 +1,3 @@
 pub mod Traversal
 pub mod Walk
-pub mod More
+pub mod Demand3

@@ -8,13 +8,28 @@ use Rattle.refusal.specs.declared.Refusal.{Refusal}
 use Rattle.refusal.specs.declared.Refusal.the-variants as No
 use Rattle.refusal.specs.declared.Check.{Check}
 use Rattle.refusal.specs.declared.Check.the-variants.{Passed, Refused}
-use Rattle.refusal.specs.Check.{rule, first, ifPassed}
+use Rattle.refusal.specs.Check.{rule, first}
 use Rattle.open.specs.Format.{meta, u64}
-use Rattle.open.specs.Opening.{field, opening, pairs}
-use Rattle.context.specs.Context.{Targets, childrenPlace, childrenBytes, ctxId, extent, contextCheck, targetsOf}
+use Rattle.open.specs.Opening.{field, onOpened}
+use Rattle.context.specs.Context.{Targets, childrenPlace, childrenBytes, ctxId, extent, contextRule, linksRule, childrenRule, targetsOf}
 use Rattle.context.specs.Entry.{Entry, entryAt}
 
--- what a traversal comes to, with the contexts visited: it goes on, there is no room for one more, or it is refused
+-- ---- what is asked, and what it comes to
+
+-- the lengths of what is lent: words of the listing, slots of the table
+pub record Lengths : Type 0 where
+  pub listing : ℕ
+  pub table : ℕ
+
+-- what a walk is asked with
+pub record Asked : Type 0 where
+  pub file : List ℕ
+  pub lent : Lengths
+
+abbrev pub ask : (file : List ℕ) → Lengths → Asked
+ask file n = record { file = file; lent = n }
+
+-- with the contexts visited: it goes on, there is no room for one more, or it is refused
 pub data Outcome : Type 0 where
   on : List Entry → Outcome
   cut : List Entry → Outcome
@@ -25,16 +40,27 @@ listOf (on l) = l
 listOf (cut l) = l
 listOf (refused r l) = l
 
--- what it is over: the file, what pointers may lead to, the table's length, the greatest depth, and whether after some contexts
--- there is room for one more
+-- ---- what a traversal is over: what is asked, what pointers may lead to, and whether after some contexts there is room for one more
+
 pub record Parameters : Type 0 where
-  pub file : List ℕ
+  pub asked : Asked
   pub targets : Targets
-  pub slots : ℕ
-  pub limit : ℕ
   pub free : List Entry → Bool
 
+abbrev pub parameters : Asked → Targets → (List Entry → Bool) → Parameters
+parameters a t free = record { asked = a; targets = t; free = free }
+
+-- with room for every context, and as far as the listing has words
+abbrev pub endless : Asked → Targets → Parameters
+endless a t = parameters a t (λ l. true)
+
+abbrev pub limited : Asked → Targets → Parameters
+limited a t = parameters a t (λ l. ltb (length l) (a .lent .listing))
+
 -- ---- one context
+
+abbrev pub depthLimit : ℕ
+depthLimit = 200
 
 -- a context with this ctxId is among some
 unfoldable pub seen : (id : ℕ) → List Entry → Bool
@@ -42,15 +68,17 @@ seen id [] = false
 seen id (e ∷ es) = eqb id (e .ctxId) || seen id es
 
 -- 12, 13, 14
-unfoldable pub slotCheck : (depth limit id slots : ℕ) (twice : Bool) → Check
-slotCheck depth limit id slots twice =
-    first (rule (leb depth limit) No.Deep) (first (rule (ltb id slots) No.Slot) (rule (not twice) No.Twice))
+unfoldable pub slotCheck : (depth id slots : ℕ) (twice : Bool) → Check
+slotCheck depth id slots twice =
+    first (rule (leb depth depthLimit) No.Deep) (first (rule (ltb id slots) No.Slot) (rule (not twice) No.Twice))
 
--- the rules of a visit, in order: 10, 9, 7, 12, 13, 14
+-- the rules of a visit, in order: 10; 9; 7; 12, 13, 14
 unfoldable pub visitCheck : Parameters → (path : List ℕ) (p stop : ℕ) → List Entry → Check
 visitCheck E path p stop l =
-    first (contextCheck (E .targets) (E .file) p stop)
-    (slotCheck (length path) (E .limit) (field (E .file) p ctxId) (E .slots) (seen (field (E .file) p ctxId) l))
+    first (rule (contextRule (E .asked .file) p stop) No.Context)
+    (first (rule (linksRule (E .targets) (E .asked .file) p) No.Link)
+    (first (rule (childrenRule (E .targets) (E .asked .file) p) No.Array)
+    (slotCheck (length path) (field (E .asked .file) p ctxId) (E .asked .lent .table) (seen (field (E .asked .file) p ctxId) l))))
 
 -- a visit by its check, and by whether there is room: with the context listed, into its children
 unfoldable pub enter : Check → (room : Bool) → (into : List Entry → Outcome) → List Entry → Entry → Outcome
@@ -68,8 +96,9 @@ Down = (parent : ℕ) (path : List ℕ) (from stop : ℕ) → List Entry → Out
 unfoldable pub visit : Parameters → Down → (parent : ℕ) (path : List ℕ) (p stop : ℕ) → List Entry → Outcome
 visit E down parent path p stop l =
     enter (visitCheck E path p stop l) (E .free l)
-    (down p path (field (E .file) p childrenPlace) (field (E .file) p childrenPlace + field (E .file) p childrenBytes))
-    l (entryAt (E .file) parent path p)
+    (down p path (field (E .asked .file) p childrenPlace)
+    (field (E .asked .file) p childrenPlace + field (E .asked .file) p childrenBytes))
+    l (entryAt (E .asked .file) parent path p)
 
 -- what follows, unless it ended
 unfoldable pub bind : Outcome → (List Entry → Outcome) → Outcome
@@ -87,33 +116,21 @@ unfoldable pub siblings : Parameters → Down → (parent : ℕ) (ups : List ℕ
 siblings E down parent ups zero i p stop l = on l
 siblings E down parent ups (suc bound) i p stop l =
     turn (ltb p stop) (visit E down parent (ups ++ (i ∷ [])) p stop)
-    (λ m. siblings E down parent ups bound (suc i) (p + extent (E .file) p) stop m) l
+    (λ m. siblings E down parent ups bound (suc i) (p + extent (E .asked .file) p) stop m) l
 
--- an array of contexts, below which there are `left` levels: at the last one every context is too deep
-unfoldable pub level : Parameters → (left : ℕ) → Down
-level E zero parent ups from stop l = siblings E (λ a path f s m. on m) parent ups (stop - from) 0 from stop l
-level E (suc left) parent ups from stop l = siblings E (level E left) parent ups (stop - from) 0 from stop l
+-- an array of contexts with `levels` levels, its own among them; where none is left, the contexts above it were too deep
+unfoldable pub level : Parameters → (levels : ℕ) → Down
+level E zero parent ups from stop l = on l
+level E (suc levels) parent ups from stop l = siblings E (level E levels) parent ups (stop - from) 0 from stop l
 
 -- ---- a file's
 
-abbrev pub depthLimit : ℕ
-depthLimit = 200
-
-abbrev pub parameters : List ℕ → (slots : ℕ) → (List Entry → Bool) → Parameters
-parameters file slots free = record {
-  file = file;
-  targets = targetsOf file (pairs meta file);
-  slots = slots;
-  limit = depthLimit;
-  free = free;
-}
-
--- from the roots, whose size and place stand in the header of the Context section
+-- from the roots, whose size and place stand in the header of the Context section; the last level is that of contexts too deep
 unfoldable pub fromRoots : Parameters → Outcome
 fromRoots E =
-    level E (E .limit) 0 [] (field (E .file) (E .targets .at) (u64 8))
-    (field (E .file) (E .targets .at) (u64 8) + field (E .file) (E .targets .at) (u64 0)) []
+    level E (suc depthLimit) 0 [] (field (E .asked .file) (E .targets .at) (u64 8))
+    (field (E .asked .file) (E .targets .at) (u64 8) + field (E .asked .file) (E .targets .at) (u64 0)) []
 
--- for a table of `slots`, to its end
-unfoldable pub traversal : List ℕ → (slots : ℕ) → Outcome
-traversal file slots = ifPassed (λ r. refused r []) (opening meta file) (fromRoots (parameters file slots (λ l. true)))
+-- to its end
+unfoldable pub traversal : Asked → Outcome
+traversal a = onOpened (λ r. refused r []) meta (a .file) (λ ps. fromRoots (endless a (targetsOf (a .file) ps)))

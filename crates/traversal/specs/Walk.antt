@@ -1,30 +1,25 @@
--- A walk: as much of the traversal as a listing has room for, and what lent slices hold after it.
-use Prim.Native.Nat.{ℕ, _+_, _*_, _/_}
-use mathlib.Core.Bool.{Bool, true, false}
+-- A walk: as much of the traversal as a listing has room for, and what it leaves in lent slices.
+use Prim.Native.Nat.{ℕ, _/_}
 use mathlib.Core.List.{List, [], _∷_, _++_, map}
+use mathlib.Core.Path.{_≡_}
 use lib.Dec.{leb}
 use lib.ListN.{length, take, set, replicate}
-use Rattle.refusal.specs.Check.{either, ifPassed}
+use Rattle.refusal.specs.Check.{either}
 use Rattle.refusal.specs.Number.{numberOf}
 use Rattle.buffer.specs.Over.{over}
 use Rattle.open.specs.Format.{meta}
-use Rattle.open.specs.Opening.{opening}
+use Rattle.open.specs.Opening.{onOpened}
 use Rattle.context.specs.Entry.{Entry, entryWords, wordsEach}
 use Rattle.traversal.specs.declared.Walked.{Walked}
 use Rattle.traversal.specs.declared.Walked.the-variants.{Complete, Truncated, Refused}
-use Rattle.traversal.specs.Traversal.{Outcome, on, cut, refused, listOf, traversal}
+use Rattle.traversal.specs.Traversal.{Asked, ask, Outcome, on, cut, refused, listOf, traversal}
 
 -- all with its end, or the first n and cut
 unfoldable pub truncate : (n : ℕ) → Outcome → Outcome
 truncate n o = either (leb (length (listOf o)) n) o (cut (take n (listOf o)))
 
--- the walk with a listing of `room` words and a table of `slots`
-unfoldable pub walkOf : List ℕ → (room slots : ℕ) → Outcome
-walkOf file room slots = truncate room (traversal file slots)
-
--- and with lent slices
-abbrev pub walkWith : List ℕ → (listing table : List ℕ) → Outcome
-walkWith file listing table = walkOf file (length listing) (length table)
+unfoldable pub walkOf : Asked → Outcome
+walkOf a = truncate (a .lent .listing) (traversal a)
 
 -- ---- its answer
 
@@ -37,11 +32,6 @@ abbrev pub numberListed : Walked → ℕ
 numberListed (Complete n) = n
 numberListed (Truncated n) = n
 numberListed (Refused r n) = n
-
-abbrev pub isTruncated : Walked → Bool
-isTruncated (Complete n) = false
-isTruncated (Truncated n) = true
-isTruncated (Refused r n) = false
 
 -- the answer in words: 0 whole, 101 cut, or the refusal's number; the number listed
 unfoldable pub walkedWords : Walked → List ℕ
@@ -77,4 +67,29 @@ recordsWith l was = over was 0 (wordsOf (take (length was / wordsEach) l))
 
 -- the table after a walk: untouched if opening refuses. (Then nothing is listed, so the other slices are untouched too.)
 unfoldable pub tableAfter : List ℕ → Outcome → (was : List ℕ) → List ℕ
-tableAfter file o was = ifPassed (λ r. was) (opening meta file) (tableWith (listOf o) (length was))
+tableAfter file o was = onOpened (λ r. was) meta file (λ ps. tableWith (listOf o) (length was))
+
+-- ---- a walk of a file with lent slices
+
+pub record Slices : Type 0 where
+  pub listing : List ℕ
+  pub table : List ℕ
+  pub records : List ℕ
+
+abbrev pub slices : (listing table records : List ℕ) → Slices
+slices listing table records = record { listing = listing; table = table; records = records }
+
+-- what it is asked with
+abbrev pub askWith : (file : List ℕ) → Slices → Asked
+askWith file s = ask file (record { listing = length (s .listing); table = length (s .table) })
+
+-- what it leaves: its answer, as `say` puts it, and the slices
+pub record Leaves {A : Type 0} (say : Walked → A) (file : List ℕ) (was : Slices) (answer : A) (now : Slices) : Type 0 where
+  pub answers : answer ≡ say (walkedOf (walkOf (askWith file was)))
+  pub lists : now .listing ≡ listingWith (listOf (walkOf (askWith file was))) (was .listing)
+  pub fills : now .table ≡ tableAfter file (walkOf (askWith file was)) (was .table)
+  pub records : now .records ≡ recordsWith (listOf (walkOf (askWith file was))) (was .records)
+
+-- by the answer itself
+abbrev pub itself : Walked → Walked
+itself w = w

@@ -1,1 +1,2 @@
 pub mod Tuple
+pub mod Sound

@@ -1,19 +1,19 @@
 -- Identifier tuples of profile.db: nIds, and from byte 8 on that many identifications of 16 bytes.
-use Prim.Native.Nat.{ℕ, _+_, _*_, _≤_, _<_}
+use Prim.Native.Nat.{ℕ, _+_, _*_}
 use mathlib.Core.Bool.{Bool, _&&_}
 use mathlib.Core.List.{List, [], _∷_}
-use lib.ListN.{length, getD}
 use Rattle.le.specs.Number.{number}
 use Rattle.range.specs.Range.{within, multiple}
 use Rattle.refusal.specs.declared.Refusal.{Refusal}
 use Rattle.refusal.specs.declared.Refusal.the-variants as No
 use Rattle.refusal.specs.Check.{rule, ifPassed}
-use Rattle.refusal.specs.Number.{numberOf}
+use Rattle.refusal.specs.Words.{refusedWords}
 use Rattle.open.specs.Format as Format
-use Rattle.open.specs.Opening.{opening, pairs, placeIn, sizeIn}
+use Rattle.open.specs.Names as Section
+use Rattle.open.specs.Opening.{placeIn, sizeIn, onOpened}
 use Rattle.array.specs.declared.Array.{Array}
 use Rattle.array.specs.Element.{elementAt, onElement}
-use Rattle.array.specs.Stored.{infosArray}
+use Rattle.array.specs.Stored.{arrayIn}
 use Rattle.tuple.specs.declared.Tuple.{Tuple}
 use Rattle.tuple.specs.declared.Tuple.the-variants as Tuple
 use Rattle.tuple.specs.declared.Identifier.{Identifier}
@@ -34,11 +34,11 @@ tupleOf file place size at = ifPassed Tuple.Refused (rule (tupleRule file place 
 -- of a profile: 15, then 7
 unfoldable pub tupleIn : List ℕ → (sections : List (List ℕ)) → (profile : ℕ) → Tuple
 tupleIn file sections profile =
-    onElement Tuple.Refused (elementAt (infosArray file (placeIn sections 0)) profile)
-    (λ at. tupleOf file (placeIn sections 1) (sizeIn sections 1) (number 8 file (at + 32)))
+    onElement Tuple.Refused (elementAt (arrayIn Format.profile file sections Section.infos) profile)
+    (λ at. tupleOf file (placeIn sections Section.idTuples) (sizeIn sections Section.idTuples) (number 8 file (at + 32)))
 
 unfoldable pub tupleAt : List ℕ → (profile : ℕ) → Tuple
-tupleAt file profile = ifPassed Tuple.Refused (opening Format.profile file) (tupleIn file (pairs Format.profile file) profile)
+tupleAt file profile = onOpened Tuple.Refused Format.profile file (λ ps. tupleIn file ps profile)
 
 -- ---- an identification: all 16 bits of its flags, of which bit 0 is `isPhysical`
 
@@ -62,12 +62,8 @@ identifierAt file profile k = onTuple Identifier.Refused (tupleAt file profile) 
 
 unfoldable pub tupleWords : Tuple → List ℕ
 tupleWords (Tuple.Of a) = 0 ∷ a .count ∷ []
-tupleWords (Tuple.Refused r) = numberOf r ∷ 0 ∷ []
+tupleWords (Tuple.Refused r) = refusedWords r
 
 unfoldable pub identifierWords : Identifier → List ℕ
 identifierWords (Identifier.Of kind flags logical physical) = 0 ∷ kind ∷ flags ∷ logical ∷ physical ∷ []
-identifierWords (Identifier.Refused r) = numberOf r ∷ 0 ∷ 0 ∷ 0 ∷ 0 ∷ []
-
--- what opening gives of the section of tuples
-abbrev pub Inside : List ℕ → (section : List ℕ) → Type 0
-Inside file section = 0 < getD section 1 0 → getD section 0 0 + getD section 1 0 ≤ length file
+identifierWords (Identifier.Refused r) = refusedWords r

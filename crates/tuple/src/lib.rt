@@ -3,11 +3,15 @@ ghost use mathlib.Core.List.{[], _∷_};
 ghost use mathlib.Core.Path.{_≡_};
 ghost use Prim.Native.Nat.{_+_, _≤_};
 ghost use lib.ListN.{length, getD};
+ghost use Rattle.open.specs.Format.{infosArray};
 ghost use Rattle.array.specs.Element.{Bounded};
-ghost use Rattle.array.specs.Stored.{infosArray};
-ghost use Rattle.tuple.specs.Tuple.{tupleOf, tupleIn, tupleAt, identifierOf, identifierIn, identifierAt, Inside};
+ghost use Rattle.array.specs.Stored.{arrayOf};
+ghost use Rattle.tuple.specs.Tuple.{tupleOf, tupleIn, tupleAt, identifierOf, identifierIn, identifierAt};
+ghost use Rattle.tuple.specs.Sound.{SectionInside};
 use array::Array;
 use array::Element;
+use open::ID_TUPLES;
+use open::INFOS;
 use refusal::Check;
 use refusal::Refusal;
 
@@ -30,7 +34,7 @@ pub enum Identifier {
 
 // The tuple at a place: 7.
 fn tuple_of(file: &[u8], section: [u64; 2], at: u64) -> Tuple
-    requires { ⌜ Inside (now file) section ⌝ }
+    requires { ⌜ SectionInside (now file) section ⌝ }
     ensures { λ r. ⌜ r ≡ tupleOf (now (file .entry)) (getD section 0 0) (getD section 1 0) at ⌝ }
 {
     let n = le::u16_at(file, at, 0) as u64;
@@ -47,8 +51,8 @@ fn tuple_of(file: &[u8], section: [u64; 2], at: u64) -> Tuple
 
 // The tuple of a profile: 15, then 7.
 fn tuple_in(file: &[u8], infos: [u64; 2], tuples: [u64; 2], profile: u64) -> Tuple
-    requires { ⌜ Bounded (infosArray (now file) (getD infos 0 0)) ⌝ }
-    requires { ⌜ Inside (now file) tuples ⌝ }
+    requires { ⌜ Bounded (arrayOf (now file) (getD infos 0 0) infosArray) ⌝ }
+    requires { ⌜ SectionInside (now file) tuples ⌝ }
     requires { ⌜ getD infos 0 0 + 13 ≤ length (now file) ⌝ }
     ensures { λ r. ⌜ r ≡ tupleIn (now (file .entry)) (infos ∷ tuples ∷ []) profile ⌝ }
 {
@@ -65,7 +69,7 @@ pub fn tuple_at(file: &[u8], profile: u64) -> Tuple
     let sections = open::profile_sections(file);
     let check = open::check_profile(file, sections);
     match check {
-        Check::Passed => tuple_in(file, sections[0], sections[1], profile),
+        Check::Passed => tuple_in(file, sections[INFOS], sections[ID_TUPLES], profile),
         Check::Refused(r) => Tuple::Refused(r),
     }
 }

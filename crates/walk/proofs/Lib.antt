@@ -1,5 +1,4 @@
 pub mod Slices
-pub mod Steps
 pub mod Going
 pub mod Visits
 pub mod Measure

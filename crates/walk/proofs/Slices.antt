@@ -1,21 +1,23 @@
 -- One context more in the lent slices; and the table tells which ids are among the contexts listed.
-use Prim.Native.Nat.{ℕ, zero, suc, _+_, _*_, _/_, _≤_, _<_}
+use Prim.Native.Nat.{ℕ, zero, suc, _+_, _*_, _/_, _<_}
 use mathlib.Core.Bool.{Bool, true, false, not, true≢false}
 use mathlib.Core.List.{List, [], _∷_, _++_, map, map-append, append-nil, append-assoc}
 use mathlib.Core.Path.{_≡_, refl, sym, ap, _∙_}
 use native.Mathlib.Nat.{zero-add}
 use native.Mathlib.Omega.{arith}
-use borrow.Author.Tests.{eq-eqb, ne-eqb, ltb-true, ltb-false, eqb-true, eqb-false}
+use borrow.Author.Tests.{eq-eqb, ne-eqb, ltb-true, ltb-false, eqb-true}
 use lib.Dec.{eqb, ltb}
 use lib.ListN.{length, getD, set, take, replicate, length-append, length-set, length-replicate, getD-replicate, length-map}
-use lib.Seq.{getD-set-same, getD-set-other, take-all, take-append-le}
+use lib.Seq.{getD-set-same, take-all, take-append-le}
 use Rattle.refusal.specs.Check.{either}
 use Rattle.buffer.specs.Over.{over}
 use Rattle.buffer.proofs.Laws.{over-none, over-append, over-one, length-over}
 use Rattle.context.specs.Entry.{Entry, entryWords, wordsEach}
 use Rattle.traversal.specs.Traversal.{seen}
-use Rattle.traversal.specs.Walk.{placeOf, listingWith, slotsWith, tableWith, wordsOf, recordsWith}
-use Rattle.walk.specs.State.{Lent, Slices, slices, Placed, taken, Holds}
+use Rattle.traversal.specs.Walk.{placeOf, listingWith, slotsWith, tableWith, wordsOf, recordsWith, Slices, slices}
+use Rattle.traversal.proofs.Table.{slots-append, length-table, slot-stays}
+use Rattle.traversal.proofs.Ids.{unseen}
+use Rattle.walk.specs.State.{Placed, taken, Holds}
 
 pub not-not : (b : Bool) → not (not b) ≡ b
 not-not true = refl
@@ -23,33 +25,9 @@ not-not false = refl
 
 -- ---- the table
 
-slots-snoc : (t : List ℕ) (l : List Entry) (e : Entry) → slotsWith (l ++ (e ∷ [])) t ≡ set (slotsWith l t) (e .ctxId) (e .place)
-unfolding slotsWith
-slots-snoc t [] e = refl
-slots-snoc t (x ∷ l) e = slots-snoc (set t (x .ctxId) (x .place)) l e
-
-length-slots : (t : List ℕ) (l : List Entry) → length (slotsWith l t) ≡ length t
-unfolding slotsWith
-length-slots t [] = refl
-length-slots t (x ∷ l) = length-slots (set t (x .ctxId) (x .place)) l ∙ length-set t (x .ctxId) (x .place)
-
 placed-snoc : (l : List Entry) (e : Entry) → Placed l → 0 < e .place → Placed (l ++ (e ∷ []))
 placed-snoc [] e h p = (p, tt)
 placed-snoc (x ∷ l) e h p = (h .0, placed-snoc l e (h .1) p)
-
--- a slot that none of the contexts has stays
-unseen : (l : List Entry) (t : List ℕ) (i : ℕ) → seen i l ≡ false → getD (slotsWith l t) i 0 ≡ getD t i 0
-unfolding slotsWith seen
-unseen [] t i h = refl
-unseen (x ∷ l) t i h = go (eqb i (x .ctxId)) refl (unseen l (set t (x .ctxId) (x .place)) i)
-  where
-    u : List ℕ
-    u = set t (x .ctxId) (x .place)
-
-    go : (b : Bool) → eqb i (x .ctxId) ≡ b → (seen i l ≡ false → getD (slotsWith l u) i 0 ≡ getD u i 0)
-        → getD (slotsWith l u) i 0 ≡ getD t i 0
-    go true e rest = absurd (true≢false (rw e at h))
-    go false e rest = rest (rw e at h) ∙ getD-set-other t (x .ctxId) i (x .place) 0 (eqb-false i (x .ctxId) e)
 
 kept-set : (t : List ℕ) (j v i : ℕ) → 0 < v → 0 < getD t i 0 → 0 < getD (set t j v) i 0
 kept-set [] j v i p h = h
@@ -94,7 +72,7 @@ taken-seen slots i l p k = go (seen i l) refl
 
     go : (b : Bool) → seen i l ≡ b → taken table i ≡ seen i l
     go true e = taken-yes table i (λ z. omega (arith, held l (replicate slots 0) i p (rw length-replicate k) e)) ∙ sym e
-    go false e = taken-no table i (unseen l (replicate slots 0) i e ∙ getD-replicate slots i 0 0 k) ∙ sym e
+    go false e = taken-no table i (slot-stays l (replicate slots 0) i (unseen i l e) ∙ getD-replicate slots i 0 0 k) ∙ sym e
 
 -- ---- the listing and the records
 
@@ -152,46 +130,41 @@ records-snoc was l e = rw (length-records was l) (go (ltb (length l) (length was
 
 -- ---- all of them
 
-module _ {was : Lent} {l : List Entry} {s : Slices} {n : ℕ} (h : Holds was l s n) where
+module _ {was : Slices} {l : List Entry} {s : Slices} {n : ℕ} (h : Holds was l s n) where
   pub long : length (s .listing) ≡ length (was .listing)
   unfolding listingWith
   long = rw (h .listed) (length-over (was .listing) 0 (map placeOf l))
 
-  pub wide : length (s .table) ≡ was .slots
-  unfolding tableWith
-  wide = rw (h .filled) (length-slots (replicate (was .slots) 0) l ∙ length-replicate (was .slots) 0)
+  pub wide : length (s .table) ≡ length (was .table)
+  wide = ap length (h .filled) ∙ length-table l (length (was .table))
 
   pub one-more : (e : Entry) (records : List ℕ) → 0 < e .place
       → records ≡ either (ltb n (length (s .records) / wordsEach)) (over (s .records) (n * wordsEach) (entryWords e)) (s .records)
       → Holds was (l ++ (e ∷ [])) (slices (set (s .listing) n (e .place)) (set (s .table) (e .ctxId) (e .place)) records) (n + 1)
-  unfolding tableWith
+  unfolding tableWith slotsWith
   one-more e records p r = record {
     listed = rw (h .counted, h .listed) (sym (listing-snoc (was .listing) l e));
-    filled = table;
+    filled = rw (h .filled) (sym (slots-append l (e ∷ []) (replicate (length (was .table)) 0)));
     recorded = r ∙ rw (h .counted, h .recorded) (sym (records-snoc (was .records) l e));
     counted = ap (λ (m : ℕ). m + 1) (h .counted) ∙ sym (length-append l (e ∷ []));
     placed = placed-snoc l e (h .placed) p;
   }
-    where
-      table : set (s .table) (e .ctxId) (e .place) ≡ tableWith (l ++ (e ∷ [])) (was .slots)
-      table = rw (h .filled) (sym (slots-snoc (replicate (was .slots) 0) l e))
 
   -- the number that is counted is that of the list
   pub recounted : Holds was l s (length l)
   recounted = record { listed = h .listed; filled = h .filled; recorded = h .recorded; counted = refl; placed = h .placed }
 
 -- where a walk starts
-pub start : (listing table records : List ℕ) → (slots : ℕ) → table ≡ replicate slots 0
-    → Holds (record { listing = listing; slots = slots; records = records }) [] (slices listing table records) 0
+pub start : (was : Slices) (table : List ℕ) → table ≡ replicate (length (was .table)) 0 → Holds was [] (slices (was .listing) table (was .records)) 0
 unfolding listingWith tableWith slotsWith recordsWith wordsOf
-start listing table records slots e = record {
-  listed = sym (over-none listing 0);
+start was table e = record {
+  listed = sym (over-none (was .listing) 0);
   filled = e;
-  recorded = sym (none (length records / wordsEach));
+  recorded = sym (none (length (was .records) / wordsEach));
   counted = refl;
   placed = tt;
 }
   where
-    none : (m : ℕ) → over records 0 (wordsOf (take m [])) ≡ records
-    none zero = over-none records 0
-    none (suc m) = over-none records 0
+    none : (m : ℕ) → over (was .records) 0 (wordsOf (take m [])) ≡ was .records
+    none zero = over-none (was .records) 0
+    none (suc m) = over-none (was .records) 0

@@ -1,17 +1,20 @@
 // The walk of a file's contexts: a context leads into its array of children, and an array into its contexts.
 ghost use mathlib.Core.Bool.{true};
+ghost use mathlib.Core.List.{[]};
 ghost use mathlib.Core.Path.{_≡_};
-ghost use Prim.Native.Nat.{_+_, _≤_, _<_};
+ghost use Prim.Native.Nat.{suc, _+_, _≤_, _<_};
 ghost use lib.ListN.{length};
-ghost use Rattle.refusal.specs.Check.{first};
 ghost use Rattle.open.specs.Format.{meta};
-ghost use Rattle.open.specs.Opening.{field};
 ghost use Rattle.open.specs.Kept.{Sections};
-ghost use Rattle.context.specs.Context.{ctxId, contextRule, pointerCheck, targetsIn, Readable};
-ghost use Rattle.traversal.specs.Traversal.{slotCheck, depthLimit, listOf};
-ghost use Rattle.traversal.specs.Walk.{walkWith, walkedOf, listingWith, recordsWith, tableAfter};
-ghost use Rattle.walk.specs.State.{taken, slices, ArrayDoes, ContextDoes, RecordPut};
+ghost use Rattle.context.specs.Context.{contextRule};
+ghost use Rattle.context.specs.Sound.{targetsIn, Readable};
+ghost use Rattle.traversal.specs.Traversal.{slotCheck, depthLimit};
+ghost use Rattle.traversal.specs.Walk.{slices, Leaves, itself};
+ghost use Rattle.walk.specs.State.{taken, checksAfter10, ArrayDoes, ContextDoes, RecordPut};
+use context::CTX_ID;
 use context::RECORD;
+use context::TARGETS;
+use open::CONTEXT;
 use refusal::Check;
 use refusal::Refusal;
 use traversal::Walked;
@@ -20,7 +23,7 @@ const DEPTH_LIMIT: u64 = 200;
 
 // 12, 13, 14.
 fn slot_check(table: &[u64], depth: u64, id: usize) -> Check
-    ensures { λ r. ⌜ r ≡ slotCheck depth depthLimit id (length (now (table .entry))) (taken (now (table .entry)) id) ⌝ }
+    ensures { λ r. ⌜ r ≡ slotCheck depth id (length (now (table .entry))) (taken (now (table .entry)) id) ⌝ }
 {
     if DEPTH_LIMIT < depth {
         return Check::Refused(Refusal::Deep);
@@ -31,15 +34,19 @@ fn slot_check(table: &[u64], depth: u64, id: usize) -> Check
     refusal::rule(table[id] == 0, Refusal::Twice)
 }
 
-// 9, 7, 12, 13, 14.
-fn visit_check(file: &[u8], t: &[u64; 11], depth: u64, p: usize, table: &[u64]) -> Check
+// 9; 7; 12, 13, 14.
+fn visit_check(file: &[u8], targets: &[u64; TARGETS], depth: u64, p: usize, table: &[u64]) -> Check
     requires { ⌜ Readable (now file) p ⌝ }
-    ensures { λ r. ⌜ r ≡ first (pointerCheck (targetsIn (now (t .entry))) (now (file .entry)) p) (slotCheck depth depthLimit (field (now (file .entry)) p ctxId)
-        (length (now (table .entry))) (taken (now (table .entry)) (field (now (file .entry)) p ctxId))) ⌝ }
+    ensures { λ r. ⌜ r ≡ checksAfter10 (now (file .entry)) (targetsIn (now (targets .entry))) depth p (now (table .entry)) ⌝ }
 {
-    let pointers = context::pointer_check(file, t, p);
-    let id = le::load_u32(file, p + 16) as usize;
-    refusal::first(pointers, slot_check(table, depth, id))
+    let links = context::links_rule(file, targets, p);
+    let children = context::children_rule(file, targets, p);
+    let id = le::load_u32(file, p + CTX_ID) as usize;
+    let slot = slot_check(table, depth, id);
+    refusal::first(
+        refusal::rule(links, Refusal::Link),
+        refusal::first(refusal::rule(children, Refusal::Array), slot),
+    )
 }
 
 // The n-th record, where there is room for all of it.
@@ -57,7 +64,7 @@ fn put_record(file: &[u8], p: usize, depth: u64, records: &mut [u64], n: usize)
 // The contexts from `at` to `stop`, at a depth, with all below them; `count` are listed before.
 fn array(
     file: &[u8],
-    t: &[u64; 11],
+    targets: &[u64; TARGETS],
     depth: u64,
     at: usize,
     stop: usize,
@@ -66,8 +73,8 @@ fn array(
     records: &mut [u64],
     count: usize,
 ) -> Walked
-    requires { ⌜ (0 < at) × (stop ≤ length (now file)) × (targetsIn (now t) .at + targetsIn (now t) .size ≤ length (now file)) × (depth ≤ 201) ⌝ }
-    ensures { λ r. ⌜ ArrayDoes (now (file .entry)) (targetsIn (now (t .entry))) depth at stop count (slices (now (listing .entry)) (now (table .entry)) (now (records .entry)))
+    requires { ⌜ (0 < at) × (stop ≤ length (now file)) × (targetsIn (now targets) .at + targetsIn (now targets) .size ≤ length (now file)) × (depth ≤ suc depthLimit) ⌝ }
+    ensures { λ r. ⌜ ArrayDoes (now (file .entry)) (targetsIn (now (targets .entry))) depth at stop count (slices (now (listing .entry)) (now (table .entry)) (now (records .entry)))
         r (slices (now (listing .exit)) (now (table .exit)) (now (records .exit))) ⌝ }
 {
     let mut p = at;
@@ -76,7 +83,7 @@ fn array(
         if !context::context_rule(file, p, stop) {
             return Walked::Refused(Refusal::Context, n);
         }
-        let walked = visit(file, t, depth, p, stop, listing, table, records, n);
+        let walked = visit(file, targets, depth, p, stop, listing, table, records, n);
         let Walked::Complete(k) = walked else {
             return walked;
         };
@@ -89,7 +96,7 @@ fn array(
 // The context at `p`, which ends by `stop`, with all below it.
 fn visit(
     file: &[u8],
-    t: &[u64; 11],
+    targets: &[u64; TARGETS],
     depth: u64,
     p: usize,
     stop: usize,
@@ -98,18 +105,18 @@ fn visit(
     records: &mut [u64],
     n: usize,
 ) -> Walked
-    requires { ⌜ (0 < p) × (contextRule (now file) p stop ≡ true) × (stop ≤ length (now file)) × (targetsIn (now t) .at + targetsIn (now t) .size ≤ length (now file)) × (depth ≤ 201) ⌝ }
-    ensures { λ r. ⌜ ContextDoes (now (file .entry)) (targetsIn (now (t .entry))) depth p stop n (slices (now (listing .entry)) (now (table .entry)) (now (records .entry)))
+    requires { ⌜ (0 < p) × (contextRule (now file) p stop ≡ true) × (stop ≤ length (now file)) × (targetsIn (now targets) .at + targetsIn (now targets) .size ≤ length (now file)) × (depth ≤ suc depthLimit) ⌝ }
+    ensures { λ r. ⌜ ContextDoes (now (file .entry)) (targetsIn (now (targets .entry))) depth p stop n (slices (now (listing .entry)) (now (table .entry)) (now (records .entry)))
         r (slices (now (listing .exit)) (now (table .exit)) (now (records .exit))) ⌝ }
 {
-    let check = visit_check(file, t, depth, p, table);
+    let check = visit_check(file, targets, depth, p, table);
     if let Check::Refused(r) = check {
         return Walked::Refused(r, n);
     }
     if listing.len() <= n {
         return Walked::Truncated(n);
     }
-    let id = le::load_u32(file, p + 16) as usize;
+    let id = le::load_u32(file, p + CTX_ID) as usize;
     listing[n] = p as u64;
     table[id] = p as u64;
     put_record(file, p, depth, records, n);
@@ -121,7 +128,7 @@ fn visit(
     let end = place + bytes;
     array(
         file,
-        t,
+        targets,
         depth + 1,
         place,
         end,
@@ -132,21 +139,20 @@ fn visit(
     )
 }
 
+// Of an opened file.
 fn walk_in(
     file: &[u8],
-    sections: [[u64; 2]; 8],
+    sections: &[[u64; 2]; 8],
     listing: &mut [u64],
     table: &mut [u64],
     records: &mut [u64],
 ) -> Walked
-    requires { ⌜ Sections meta (now file) sections ⌝ }
-    ensures { λ r. ⌜ r ≡ walkedOf (walkWith (now (file .entry)) (now (listing .entry)) (now (table .entry))) ⌝ }
-    ensures { λ _. ⌜ now (listing .exit) ≡ listingWith (listOf (walkWith (now (file .entry)) (now (listing .entry)) (now (table .entry)))) (now (listing .entry)) ⌝ }
-    ensures { λ _. ⌜ now (table .exit) ≡ tableAfter (now (file .entry)) (walkWith (now (file .entry)) (now (listing .entry)) (now (table .entry))) (now (table .entry)) ⌝ }
-    ensures { λ _. ⌜ now (records .exit) ≡ recordsWith (listOf (walkWith (now (file .entry)) (now (listing .entry)) (now (table .entry)))) (now (records .entry)) ⌝ }
+    requires { ⌜ Sections meta (now file) (now sections) ⌝ }
+    ensures { λ r. ⌜ Leaves itself (now (file .entry)) (slices (now (listing .entry)) (now (table .entry)) (now (records .entry)))
+        r (slices (now (listing .exit)) (now (table .exit)) (now (records .exit))) ⌝ }
 {
-    let t = context::targets_of(file, sections);
-    let at = sections[3][0];
+    let targets = context::targets_of(file, sections);
+    let at = sections[CONTEXT][0];
     let bytes = le::u64_at(file, at, 0) as usize;
     let place = le::u64_at(file, at, 8) as usize;
     buffer::clear(table);
@@ -154,29 +160,25 @@ fn walk_in(
         return Walked::Complete(0);
     }
     let end = place + bytes;
-    array(file, &t, 1, place, end, listing, table, records, 0)
+    array(file, &targets, 1, place, end, listing, table, records, 0)
 }
 
 // The entry point with records: words of the listed contexts, as far as there is room for whole ones.
 pub fn records(file: &[u8], listing: &mut [u64], table: &mut [u64], records: &mut [u64]) -> Walked
-    ensures { λ r. ⌜ r ≡ walkedOf (walkWith (now (file .entry)) (now (listing .entry)) (now (table .entry))) ⌝ }
-    ensures { λ _. ⌜ now (listing .exit) ≡ listingWith (listOf (walkWith (now (file .entry)) (now (listing .entry)) (now (table .entry)))) (now (listing .entry)) ⌝ }
-    ensures { λ _. ⌜ now (table .exit) ≡ tableAfter (now (file .entry)) (walkWith (now (file .entry)) (now (listing .entry)) (now (table .entry))) (now (table .entry)) ⌝ }
-    ensures { λ _. ⌜ now (records .exit) ≡ recordsWith (listOf (walkWith (now (file .entry)) (now (listing .entry)) (now (table .entry)))) (now (records .entry)) ⌝ }
+    ensures { λ r. ⌜ Leaves itself (now (file .entry)) (slices (now (listing .entry)) (now (table .entry)) (now (records .entry)))
+        r (slices (now (listing .exit)) (now (table .exit)) (now (records .exit))) ⌝ }
 {
     let sections = open::meta_sections(file);
     let check = open::check_meta(file, &sections);
     match check {
-        Check::Passed => walk_in(file, sections, listing, table, records),
+        Check::Passed => walk_in(file, &sections, listing, table, records),
         Check::Refused(r) => Walked::Refused(r, 0),
     }
 }
 
 // The walk alone.
 pub fn walk(file: &[u8], listing: &mut [u64], table: &mut [u64]) -> Walked
-    ensures { λ r. ⌜ r ≡ walkedOf (walkWith (now (file .entry)) (now (listing .entry)) (now (table .entry))) ⌝ }
-    ensures { λ _. ⌜ now (listing .exit) ≡ listingWith (listOf (walkWith (now (file .entry)) (now (listing .entry)) (now (table .entry)))) (now (listing .entry)) ⌝ }
-    ensures { λ _. ⌜ now (table .exit) ≡ tableAfter (now (file .entry)) (walkWith (now (file .entry)) (now (listing .entry)) (now (table .entry))) (now (table .entry)) ⌝ }
+    ensures { λ r. ⌜ Leaves itself (now (file .entry)) (slices (now (listing .entry)) (now (table .entry)) []) r (slices (now (listing .exit)) (now (table .exit)) []) ⌝ }
 {
     let mut none = [0u64; 1];
     records(file, listing, table, &mut none)

@@ -7,6 +7,15 @@ use libc::STDOUT_FILENO;
 // What the table holds before a walk.
 const BEFORE: u64 = 7;
 
+fn spaced(n: u64) {
+    io::write_all(STDOUT_FILENO, b" ");
+    io::print_decimal(STDOUT_FILENO, n);
+}
+
+fn newline() {
+    io::write_all(STDOUT_FILENO, b"\n");
+}
+
 // A decimal number, at most 1,024.
 fn room(text: &[u8]) -> usize
     ensures { λ r. ⌜ r ≤ 1024 ⌝ }
@@ -25,13 +34,13 @@ fn flex(records: &[u64], i: usize) {
         return;
     }
     io::write_all(STDOUT_FILENO, b"flex");
-    report::spaced(records[at]);
+    spaced(records[at]);
     let mut k = 5;
     while k < RECORD {
-        report::spaced(records[at + k]);
+        spaced(records[at + k]);
         k += 1;
     }
-    report::newline();
+    newline();
 }
 
 fn each_flex(records: &[u64], n: usize) {
@@ -47,12 +56,12 @@ fn filled(table: &[u64]) {
     let mut i = 0;
     while i < table.len() {
         if table[i] != 0 {
-            report::spaced(i as u64);
-            report::spaced(table[i]);
+            spaced(i as u64);
+            spaced(table[i]);
         }
         i += 1;
     }
-    report::newline();
+    newline();
 }
 
 fn untouched(table: &[u64]) -> bool {
@@ -119,7 +128,7 @@ fn case(name: &[u8], room: usize, size: usize) {
 fn row(line: &[u8]) {
     io::write_all(STDOUT_FILENO, b"== ");
     io::write_all(STDOUT_FILENO, line);
-    report::newline();
+    newline();
     let name = script::word(line, 0);
     let at = name.len() + 1;
     let words = script::word(line, at);

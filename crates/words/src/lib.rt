@@ -1,8 +1,10 @@
 // Answers as C programs take them: the number as the result, and the values in lent words where the number is 0.
-ghost use mathlib.Core.Bool.{cond};
+ghost use mathlib.Core.List.{_∷_};
 ghost use mathlib.Core.Path.{_≡_};
 ghost use Rattle.refusal.specs.Number.{numberOf};
-ghost use Rattle.function.specs.Function.{functionWords, noName};
+ghost use Rattle.refusal.specs.Check.{either};
+ghost use Rattle.refusal.specs.Words.{codeIn};
+ghost use Rattle.function.specs.Function.{functionWords};
 ghost use Rattle.text.specs.String.{textWords};
 ghost use Rattle.meta.specs.Names.{sourceWords};
 ghost use Rattle.metric.specs.Levels.{metricWords, scopeWords, summaryWords};
@@ -11,7 +13,7 @@ ghost use Rattle.count.specs.Count.{countWords};
 ghost use Rattle.tuple.specs.Tuple.{tupleWords, identifierWords};
 ghost use Rattle.trace.specs.Trace.{lineWords, sampleWords, lastWords};
 ghost use Rattle.total.specs.Totals.{totalsWords};
-ghost use Rattle.words.specs.Convention.{codeIn, valuesIn, wordsIn};
+ghost use Rattle.words.specs.Convention.{wordsIn};
 use count::Count;
 use function::Function;
 use meta::SourceFile;
@@ -34,16 +36,9 @@ pub fn code(r: refusal::Refusal) -> u32
 }
 
 fn bit(b: bool) -> u64
-    ensures { λ r. ⌜ r ≡ cond b 1 0 ⌝ }
+    ensures { λ r. ⌜ r ≡ either b 1 0 ⌝ }
 {
     if b { 1 } else { 0 }
-}
-
-// 1 for a name that is not there.
-fn no_name(name: u64) -> u64
-    ensures { λ r. ⌜ r ≡ noName name ⌝ }
-{
-    if name == 0 { 1 } else { 0 }
 }
 
 // Place and length of a string.
@@ -148,7 +143,7 @@ pub fn put_function(answer: Function, out: &mut [u64; 7]) -> u32
             file,
             line,
         } => {
-            *out = [no_name(name), name, length, module, offset, file, line];
+            *out = [bit(name == 0), name, length, module, offset, file, line];
             0
         }
         Function::Refused(r) => code(r),
@@ -280,8 +275,7 @@ pub fn put_totals(answer: Totals, out: &mut [u64; 6]) -> u32
 
 // The number listed is written whatever the end: 0 whole, 101 cut, else the refusal's number.
 pub fn put_walked(answer: Walked, out: &mut [u64; 1]) -> u32
-    ensures { λ r. ⌜ r ≡ codeIn (walkedWords answer) ⌝ }
-    ensures { λ _. ⌜ now (out .exit) ≡ valuesIn (walkedWords answer) ⌝ }
+    ensures { λ r. ⌜ (r ∷ now (out .exit)) ≡ walkedWords answer ⌝ }
 {
     match answer {
         Walked::Complete(n) => {

@@ -1,6 +1,7 @@
 -- By the block.
 use Rattle.lookup.specs.Lookup.{onChecked}
-use Rattle.batch.specs.Batch.{batchCheck, batchAnswers}
+use Rattle.batch.specs.Batch.{batchIn}
+use mathlib.Core.Path.{refl}
 use borrow.Author.Needs.{needs}
 use Rattle.batch.proofs.answer_all.Statement.{statement}
 use Rattle.batch.proofs.answer_all.Tie as tie
@@ -12,17 +13,15 @@ find-all-requires c κs =
     (pre .0 _ (checked .given .1), pre .1)
 
 returns : tie.Need-returns
-unfolding batchCheck batchAnswers onChecked
+unfolding batchIn onChecked
 returns c =
     let checked = c .before .before .before .before .before .checked in
     let find-all = c .before .before .find-all in
-    (rw (checked .given .1), rw (checked .given .1) (find-all .ensures))
+    rw (checked .given .1) (refl, find-all .ensures)
 
 returns-2 : tie.Need-returns-2
-unfolding batchCheck batchAnswers onChecked
-returns-2 c =
-    let checked2 = c .before .checked2 in
-    (rw (checked2 .given .1), rw (checked2 .given .1))
+unfolding batchIn onChecked
+returns-2 c = rw (c .before .checked2 .given .1) (refl, refl)
 
 pub answer-all-spec : {M : Type 1} → statement M
 answer-all-spec =

@@ -1,8 +1,6 @@
 -- By the room.
 use Rattle.batch.proofs.Filling.{no-room, room}
-use Rattle.lookup.proofs.Laws.{cct-valid}
-use Rattle.lookup.specs.Lookup.{cctBlock, onChecked}
-use Rattle.batch.specs.Batch.{batchCheck, batchAnswers}
+use Rattle.lookup.proofs.Laws.{cct-sound}
 use mathlib.Core.Path.{sym, _∙_}
 use native.Mathlib.Omega.{arith}
 use denote.Ref.{now}
@@ -11,20 +9,16 @@ use Rattle.batch.proofs.cct_lookups.Statement.{statement}
 use Rattle.batch.proofs.cct_lookups.Tie as tie
 
 returns : tie.Need-returns
-unfolding batchCheck batchAnswers onChecked
 returns c =
     let args = c .before .before .before .before .args in
-    let if1 = c .if1 in
-    let r = no-room (now (args .pairs)) (now (args .answers)) (cctBlock (now (args .file)) (args .context)) (omega (arith, if1 .taken)) in
-    (rw r, rw r)
+    no-room (now (args .file)) _ _ (now (args .asked)) (now (args .answers)) (omega (arith, c .if1 .taken))
 
 answer-all-requires : tie.Need-answer-all-requires
 answer-all-requires c κs =
-    let cct-shape = c .before .before .cct-shape in
     let args = c .before .before .before .before .before .before .before .args in
-    let cct-block = c .before .cct-block in
+    let cct-shape = c .before .before .cct-shape in
     let if1 = c .before .before .before .if1 in (
-      λ b e. rw (cct-shape .ensures) (cct-valid (now (args .file)) (args .context) b (sym (cct-block .ensures) ∙ e)),
+      λ b e. rw (cct-shape .ensures) (cct-sound (now (args .file)) (args .context) b (sym (c .before .cct-block .ensures) ∙ e)),
       omega (arith, if1 .left),
     )
 
@@ -35,8 +29,8 @@ returns-2 c =
     let cct-block = c .before .before .before .before .cct-block in
     let cct-shape = c .before .before .before .before .before .cct-shape in
     let answer-all = c .before .before .answer-all in
-    let r = room (now (args .pairs)) (now (args .answers)) (cctBlock (now (args .file)) (args .context)) (omega (arith, if1 .left)) in
-    rw (r, ← cct-block .ensures, ← cct-shape .ensures) (answer-all .ensures)
+    rw (← cct-block .ensures, ← cct-shape .ensures)
+    (room (now (args .file)) _ _ (now (args .asked)) (now (args .answers)) (omega (arith, if1 .left)) (answer-all .ensures))
 
 pub cct-lookups-spec : {M : Type 1} → statement M
 cct-lookups-spec =

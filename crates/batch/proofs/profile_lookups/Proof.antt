@@ -1,8 +1,6 @@
 -- By the room.
 use Rattle.batch.proofs.Filling.{no-room, room}
-use Rattle.lookup.proofs.Laws.{profile-valid}
-use Rattle.lookup.specs.Lookup.{profileBlock, onChecked}
-use Rattle.batch.specs.Batch.{batchCheck, batchAnswers}
+use Rattle.lookup.proofs.Laws.{profile-sound}
 use mathlib.Core.Path.{sym, _∙_}
 use native.Mathlib.Omega.{arith}
 use denote.Ref.{now}
@@ -11,20 +9,16 @@ use Rattle.batch.proofs.profile_lookups.Statement.{statement}
 use Rattle.batch.proofs.profile_lookups.Tie as tie
 
 returns : tie.Need-returns
-unfolding batchCheck batchAnswers onChecked
 returns c =
     let args = c .before .before .before .before .args in
-    let if1 = c .if1 in
-    let r = no-room (now (args .pairs)) (now (args .answers)) (profileBlock (now (args .file)) (args .profile)) (omega (arith, if1 .taken)) in
-    (rw r, rw r)
+    no-room (now (args .file)) _ _ (now (args .asked)) (now (args .answers)) (omega (arith, c .if1 .taken))
 
 answer-all-requires : tie.Need-answer-all-requires
 answer-all-requires c κs =
-    let profile-shape = c .before .before .profile-shape in
     let args = c .before .before .before .before .before .before .before .args in
-    let profile-block = c .before .profile-block in
+    let profile-shape = c .before .before .profile-shape in
     let if1 = c .before .before .before .if1 in (
-      λ b e. rw (profile-shape .ensures) (profile-valid (now (args .file)) (args .profile) b (sym (profile-block .ensures) ∙ e)),
+      λ b e. rw (profile-shape .ensures) (profile-sound (now (args .file)) (args .profile) b (sym (c .before .profile-block .ensures) ∙ e)),
       omega (arith, if1 .left),
     )
 
@@ -35,8 +29,8 @@ returns-2 c =
     let profile-block = c .before .before .before .before .profile-block in
     let profile-shape = c .before .before .before .before .before .profile-shape in
     let answer-all = c .before .before .answer-all in
-    let r = room (now (args .pairs)) (now (args .answers)) (profileBlock (now (args .file)) (args .profile)) (omega (arith, if1 .left)) in
-    rw (r, ← profile-block .ensures, ← profile-shape .ensures) (answer-all .ensures)
+    rw (← profile-block .ensures, ← profile-shape .ensures)
+    (room (now (args .file)) _ _ (now (args .asked)) (now (args .answers)) (omega (arith, if1 .left)) (answer-all .ensures))
 
 pub profile-lookups-spec : {M : Type 1} → statement M
 profile-lookups-spec =

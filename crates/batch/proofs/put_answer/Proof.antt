@@ -1,5 +1,6 @@
--- By the case.
+-- By the case; a refusal has one word, and not two.
 use Rattle.block.specs.Block.{lookupWords}
+use native.Mathlib.Omega.{arith}
 use borrow.Author.Needs.{needs}
 use Rattle.batch.proofs.put_answer.Statement.{statement}
 use Rattle.batch.proofs.put_answer.Tie as tie
@@ -21,10 +22,8 @@ returns-2 c =
 returns-3 : tie.Need-returns-3
 unfolding lookupWords
 returns-3 c =
-    let answer2 = c .before .before .before .before .before .before .before .answer2 in
-    let number = c .before .before .before .before .number in
-    let store3 = c .before .before .store3 in
-    rw (answer2 .given .1, ← number .ensures) (store3 .ensures)
+    let pre = c .before .before .before .pre in
+    absurd (omega (arith, rw (c .enum-told2 .given .1) at (pre .0)))
 
 pub put-answer-spec : {M : Type 1} → statement M
 put-answer-spec =
@@ -37,12 +36,8 @@ put-answer-spec =
     (λ c. search needs)
     (λ c κs. search needs)
     (λ c. search needs)
-    (λ c κs. search needs)
-    (λ c. search needs)
-    (λ c κs. search needs)
     (λ c. search needs)
     returns
     (λ c. search needs)
     returns-2
-    (λ c. search needs)
     returns-3)

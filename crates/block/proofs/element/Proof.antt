@@ -7,29 +7,25 @@ use Rattle.block.proofs.element.Statement.{statement}
 use Rattle.block.proofs.element.Tie as tie
 
 add-result : tie.Need-add-result
-add-result c =
-    let pre = c .pre in
-    omega (arith, small (pre .0 .width))
+add-result c = omega (arith, small (c .pre .0 .width))
 
 mul-result : tie.Need-mul-result
 mul-result c =
     let pre = c .pre in
     let args = c .args in
-    let good = c .good in
-    omega (arith, small (pre .0 .width), element-ends (args .k) (args .n) (args .w + 8) (pre .1), pre .0 .room, good)
+    omega (arith, small (pre .0 .width), element-ends (args .k) (args .n) (args .w + 8) (pre .1), pre .0 .ends, c .good)
 
 add-result-2 : tie.Need-add-result-2
 add-result-2 c =
     let pre = c .pre in
     let args = c .args in
-    let good = c .good in
-    omega (arith, small (pre .0 .width), element-ends (args .k) (args .n) (args .w + 8) (pre .1), pre .0 .room, good)
+    omega (arith, small (pre .0 .width), element-ends (args .k) (args .n) (args .w + 8) (pre .1), pre .0 .ends, c .good)
 
 returns : tie.Need-returns
 returns c =
     let args = c .args in
     let pre = c .pre in
-    (refl, omega (arith, element-ends (args .k) (args .n) (args .w + 8) (pre .1), pre .0 .room))
+    (refl, omega (arith, element-ends (args .k) (args .n) (args .w + 8) (pre .1), pre .0 .ends))
 
 pub element-spec : {M : Type 1} → statement M
 element-spec = tie.close (tie.spec add-result mul-result add-result-2 returns)

@@ -8,16 +8,13 @@ use Rattle.block.proofs.end_of.Tie as tie
 
 returns : tie.Need-returns
 returns c =
-    let start-of = c .start-of in
     let args = c .before .before .before .before .args in
-    let if1 = c .before .if1 in
-    start-of .ensures ∙ sym (inner-end (now (args .file)) (args .h) (args .b) (args .i) (if1 .taken))
+    c .start-of .ensures ∙ sym (inner-end (now (args .file)) (args .h) (args .b) (args .i) (c .before .if1 .taken))
 
 returns-2 : tie.Need-returns-2
 returns-2 c =
     let args = c .before .before .before .args in
-    let if1 = c .if1 in
-    sym (last-end (now (args .file)) (args .h) (args .b) (args .i) (if1 .left))
+    sym (last-end (now (args .file)) (args .h) (args .b) (args .i) (c .if1 .left))
 
 pub end-of-spec : {M : Type 1} → statement M
 end-of-spec = tie.close (tie.spec (λ c. search needs) (λ c. search needs) (λ c κs. search needs) returns returns-2)

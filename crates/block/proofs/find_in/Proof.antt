@@ -17,7 +17,7 @@ word-at-requires c κs =
     let search = c .before .before .before .search in
     let part-at = c .before .before .before .before .before .part-at in
     let k = c .before .k in
-    (part-at .ensures .1 .array, position-below _ (args .inner) (part-at .result .length) (k .given .0 .0) (sym (search .ensures) ∙ k .given .1))
+    (part-at .ensures .1 .elements, position-below _ (args .inner) (part-at .result .length) (k .given .0 .0) (sym (search .ensures) ∙ k .given .1))
 
 returns-2 : tie.Need-returns-2
 unfolding inPart valueAt

@@ -40,11 +40,10 @@ add-low c =
 
 loop-again : tie.Need-loop-again Inv-loop μ-loop
 loop-again c =
-    let id-at = c .before .id-at in
     let pre = c .before .before .before .before .before .pre in
     let loop = c .before .before .before .loop in
     let loop-test = c .before .before .loop-test in
-    let id = id-at .ensures .0 in
+    let id = c .before .id-at .ensures .0 in
     let takes = c .skipped .ensures in
     window-step (pre .1 .0) (loop .inv) (loop-test .taken) (loop .left / 2) (c .skipped .result) refl (λ h. takes .0 (rw id h))
     (λ h. takes .1 (rw id h))
@@ -56,12 +55,11 @@ returns : tie.Need-returns Inv-loop μ-loop
 returns c =
     let loop = c .before .before .before .loop in
     let pre = c .before .before .before .before .before .pre in
-    let id-at2 = c .before .id-at2 in
     let args = c .before .before .before .before .before .args in
     let window = loop .inv in
     sym
     (position-at (idAt (args .w) (now (args .file)) (args .at)) (args .key) (args .n) (pre .1 .0) (loop .low) (omega (arith, window .fits, window .some))
-    (sym (id-at2 .ensures .0) ∙ c .if1 .taken))
+    (sym (c .before .id-at2 .ensures .0) ∙ c .if1 .taken))
 
 returns-2 : tie.Need-returns-2 Inv-loop μ-loop
 returns-2 c =

@@ -1,8 +1,8 @@
 -- By the width.
+use Rattle.block.proofs.Parts.{not-two}
 use Rattle.le.specs.Number.{number}
 use mathlib.Core.Path.{sym, ap}
 use Prim.Native.Nat.{ℕ, _+_, _*_}
-use mathlib.Core.Logic.{⊎-elim}
 use Rattle.block.specs.Block.{idAt}
 use denote.Ref.{now}
 use native.Mathlib.Omega.{arith}
@@ -13,21 +13,16 @@ use Rattle.block.proofs.id_at.Tie as tie
 returns : tie.Need-returns
 unfolding idAt
 returns c =
-    let load-u16 = c .load-u16 in
     let element = c .before .before .element in
-    let if1 = c .before .if1 in
-    (rw (load-u16 .ensures, element .ensures .0, if1 .taken), omega arith)
+    (rw (c .load-u16 .ensures, element .ensures .0, c .before .if1 .taken), omega arith)
 
 returns-2 : tie.Need-returns-2
 unfolding idAt
 returns-2 c =
-    let if1 = c .before .if1 in
-    let load-u32 = c .load-u32 in
-    let element = c .before .before .element in
     let args = c .before .before .before .before .args in
-    let pre = c .before .before .before .before .pre in (
-      ⊎-elim (λ q. absurd (if1 .left q)) (λ q. rw (load-u32 .ensures, element .ensures .0)
-          (ap (λ (v : ℕ). number v (now (args .file)) (args .at + args .k * (args .w + 8))) (sym q))) (pre .0 .width),
+    let four = not-two (c .before .before .before .before .pre .0 .width) (c .before .if1 .left) in
+    let place = args .at + args .k * (args .w + 8) in (
+      rw (c .load-u32 .ensures, c .before .before .element .ensures .0) (ap (λ (v : ℕ). number v (now (args .file)) place) (sym four)),
       omega arith,
     )
 

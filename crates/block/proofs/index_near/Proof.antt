@@ -13,7 +13,7 @@ returns c = rw (c .if1 .taken)
 search-requires : tie.Need-search-requires
 search-requires c κs =
     let some = c .if1 .left in
-    (c .before .before .before .pre .room (omega (arith, some)) .indices, outer-sorted (c .before .before .before .pre) (omega (arith, some)))
+    (c .before .before .before .pre .inside (omega (arith, some)) .indices, outer-sorted (c .before .before .before .pre) (omega (arith, some)))
 
 returns-2 : tie.Need-returns-2
 unfolding indexOf

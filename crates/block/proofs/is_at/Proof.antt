@@ -12,9 +12,8 @@ returns c e = absurd (true≢false (sym e))
 
 returns-2 : tie.Need-returns-2
 returns-2 c e =
-    let if1 = c .before .if1 in
     let args = c .before .before .before .args in
-    (omega (arith, if1 .left), sym (c .id-at .ensures .0) ∙ eqb-true (c .id-at .result) (args .key) e)
+    (omega (arith, c .before .if1 .left), sym (c .id-at .ensures .0) ∙ eqb-true (c .id-at .result) (args .key) e)
 
 pub is-at-spec : {M : Type 1} → statement M
 is-at-spec = tie.close (tie.spec returns (λ c κs. search needs) returns-2)

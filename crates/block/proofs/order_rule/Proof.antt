@@ -55,24 +55,22 @@ end-of-requires c κs = (c .before .before .before .before .before .before .befo
 
 returns-3 : tie.Need-returns-3 Inv-loop μ-loop
 returns-3 c =
-    let part-rule = c .before .part-rule in
     let loop = c .before .before .before .before .before .before .loop in
     let loop-test = c .before .before .before .before .before .loop-test in
     let end-of = c .before .before .end-of in
     let args = c .before .before .before .before .before .before .before .before .before .before .args in
-    let told = part-rule .ensures (loop .i) (loop .inv .2 (loop-test .taken)) (end-of .ensures) in
+    let told = c .before .part-rule .ensures (loop .i) (loop .inv .2 (loop-test .taken)) (end-of .ensures) in
     part-fails (now (args .file)) (args .h) (args .b) (loop .i) (loop-test .taken) (sym told ∙ not-true _ (c .if3 .taken))
 
 loop-again : tie.Need-loop-again Inv-loop μ-loop
 loop-again c =
-    let part-rule = c .before .part-rule in
     let loop = c .before .before .before .before .before .before .loop in
     let loop-test = c .before .before .before .before .before .loop-test in
     let end-of = c .before .before .end-of in
     let id-at = c .before .before .before .before .id-at in
     let if2 = c .before .before .before .if2 in
     let args = c .before .before .before .before .before .before .before .before .before .before .args in
-    let told = part-rule .ensures (loop .i) (loop .inv .2 (loop-test .taken)) (end-of .ensures) in (
+    let told = c .before .part-rule .ensures (loop .i) (loop .inv .2 (loop-test .taken)) (end-of .ensures) in (
       rw (id-at .ensures .0) (rising-more (loop .inv .0) (loop-test .taken) (rw (id-at .ensures .0) at (if2 .left))),
       every-more (partRule (now (args .file)) (args .h) (args .b)) (loop .i) (loop .inv .1) (sym told ∙ not-false _ (c .if3 .left)),
       λ l. end-of .ensures ∙ inner-end (now (args .file)) (args .h) (args .b) (loop .i) l,

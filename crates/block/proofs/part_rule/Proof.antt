@@ -1,5 +1,5 @@
 -- By its start and its end.
-use Rattle.block.proofs.Parts.{part-array, part-empty, part-long, part-is}
+use Rattle.block.proofs.Parts.{part-inside, part-empty, part-long, part-is}
 use mathlib.Core.Path.{_∙_}
 use native.Mathlib.Omega.{arith}
 use borrow.Author.Needs.{needs}
@@ -24,7 +24,7 @@ ids-rise-requires c κs =
     let if2 = c .before .if2 in
     let args = c .before .before .before .before .before .args in
     rw (c .element .ensures .0)
-    (part-array (now (args .file)) (args .b .values) (args .h .inner) (args .b .total) (args .start) (args .end) (pre .values) (omega (arith, if1 .left))
+    (part-inside (now (args .file)) (args .b .values) (args .h .inner) (args .b .total) (args .start) (args .end) (pre .values) (omega (arith, if1 .left))
     (omega (arith, if2 .left)))
 
 returns-3 : tie.Need-returns-3

@@ -23,8 +23,7 @@ returns c =
     let multiple2 = c .before .before .before .before .multiple2 in
     let values = c .before .before .before .lies in
     let indices = c .before .before .lies2 in
-    let ends-by = c .before .ends-by in
-    rw (multiple .ensures, multiple2 .ensures, values .ensures, indices .ensures, ends-by .ensures)
+    rw (multiple .ensures, multiple2 .ensures, values .ensures, indices .ensures, c .before .ends-by .ensures)
 
 pub range-rule-spec : {M : Type 1} → statement M
 range-rule-spec =

@@ -1,6 +1,6 @@
 -- The ids passed rise, and the next is to be above the last of them.
 use Rattle.block.specs.Block.{idAt}
-use Rattle.seq.proofs.Rising.{Rising, rises-none, rising-start, rising-before, rising-not, rising-more, rising-all}
+use Rattle.seq.proofs.Rising.{Rising, rises-none, rising-start, rising-after, rising-not, rising-more, rising-all}
 use Prim.Native.Nat.{_+_, _-_, _<_}
 use mathlib.Core.Path.{_≡_, sym}
 use native.Mathlib.Omega.{arith}
@@ -22,23 +22,25 @@ returns c =
 
 returns-2 : tie.Need-returns-2 Inv-loop μ-loop
 returns-2 c =
-    let id-at = c .before .id-at in
     let if1 = c .before .before .if1 in
     let args = c .before .before .before .before .args in
-    let first = rw (id-at .ensures .0) at (c .if2 .taken) in
+    let first = rw (c .before .id-at .ensures .0) at (c .if2 .taken) in
     sym (rising-not (rising-start (args .least) 1 (idAt (args .w) (now (args .file)) (args .at)) (args .n)) (omega (arith, if1 .left)) first)
 
 rise-by-fours-requires : tie.Need-rise-by-fours-requires Inv-loop μ-loop
 rise-by-fours-requires c κs =
     let pre = c .before .before .before .before .pre in
     let if1 = c .before .before .if1 in
-    let id-at = c .before .id-at in
-    (pre, (omega (arith, if1 .left), omega (arith, c .if2 .left, id-at .ensures .0)))
+    (pre, (omega (arith, if1 .left), omega (arith, c .if2 .left, c .before .id-at .ensures .0)))
+
+add-k : tie.Need-add-k Inv-loop μ-loop
+add-k c = omega (arith, c .rise-by-fours .ensures .0, c .before .before .before .before .before .fits .n)
 
 loop-holds : tie.Need-loop-holds Inv-loop μ-loop
 loop-holds c =
     let known = c .rise-by-fours .ensures in
-    (known .0 .0, rising-before (known .0 .0) (known .0 .1) (known .1))
+    let e : c .rise-by-fours .result + 1 - 1 ≡ c .rise-by-fours .result = omega arith in
+    (omega arith, rw e (rising-after (known .0) (known .1)))
 
 id-at-requires-3 : tie.Need-id-at-requires-3 Inv-loop μ-loop
 id-at-requires-3 c κs = (c .before .before .before .before .before .before .before .before .pre, omega (arith, c .before .loop-test .taken))
@@ -74,6 +76,7 @@ rise-spec =
     (λ c κs. search needs)
     returns-2
     rise-by-fours-requires
+    add-k
     loop-holds
     (λ c κs. search needs)
     (λ c. search needs)

@@ -11,10 +11,9 @@ use Rattle.block.proofs.search.Tie as tie
 
 returns : tie.Need-returns
 returns c =
-    let is-at = c .before .is-at in
     let pre = c .before .before .before .pre in
     let args = c .before .before .before .args in
-    let found = is-at .ensures (c .if1 .taken) in
+    let found = c .before .is-at .ensures (c .if1 .taken) in
     sym (position-at (idAt (args .w) (now (args .file)) (args .at)) (args .key) (args .n) (pre .1) (args .hint) (found .0) (found .1))
 
 narrow-requires : tie.Need-narrow-requires

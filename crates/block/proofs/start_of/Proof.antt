@@ -6,9 +6,7 @@ use Rattle.block.proofs.start_of.Tie as tie
 
 returns : tie.Need-returns
 unfolding startOf
-returns c =
-    let word-at = c .word-at in
-    word-at .ensures
+returns c = c .word-at .ensures
 
 pub start-of-spec : {M : Type 1} → statement M
 start-of-spec = tie.close (tie.spec (λ c κs. search needs) returns)

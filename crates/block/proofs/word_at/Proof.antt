@@ -6,10 +6,7 @@ use Rattle.block.proofs.word_at.Tie as tie
 
 returns : tie.Need-returns
 unfolding wordAt
-returns c =
-    let load-u64 = c .load-u64 in
-    let element = c .before .element in
-    rw (load-u64 .ensures, element .ensures .0)
+returns c = rw (c .load-u64 .ensures, c .before .element .ensures .0)
 
 pub word-at-spec : {M : Type 1} → statement M
 word-at-spec = tie.close (tie.spec (λ c κs. search needs) (λ c. search needs) (λ c κs. search needs) returns)

@@ -1,12 +1,10 @@
 -- The entries passed are finite and in the tally, whose least and greatest are low and high.
 use borrow.Author.Needs.{needs}
 use Rattle.block.specs.Block.{idAt, wordAt}
-use Rattle.total.proofs.Loop.{Summing, summing-start, above, not-above, summing-raise, summing-lower, summing-add, summing-not, summing-all}
-use Rattle.float.specs.Float.{finite}
+use Rattle.total.proofs.Loop.{Summing, finite-told, summing-start, above, not-above, summing-raise, summing-lower, summing-add, summing-not, summing-all}
 use Rattle.float.proofs.Sums.{finite-bits}
-use borrow.Author.Tests.{not-true, not-false}
 use mathlib.Core.Logic.{⊎-elim}
-use mathlib.Core.Path.{sym, ap, _∙_}
+use mathlib.Core.Path.{sym, _∙_}
 use Prim.Native.Nat.{_-_}
 use Rattle.cct.specs.Totals.{partTotals}
 use denote.Ref.{now}
@@ -21,129 +19,93 @@ abbrev μ-loop : tie.MeasureT-loop
 μ-loop file h p first t₀ low₀ high₀ k₀ t low high k = p .length - k
 
 word-at-requires : tie.Need-word-at-requires Inv-loop μ-loop
-word-at-requires c κs =
-    let pre = c .before .pre in
-    (pre .array, pre .some)
+word-at-requires c κs = (c .before .pre .elements, c .before .pre .some)
 
 returns : tie.Need-returns Inv-loop μ-loop
 unfolding partTotals
 returns c =
     let args = c .before .before .before .before .args in
     let pre = c .before .before .before .before .pre in
-    let word-at = c .before .before .word-at in
-    let is-finite = c .before .is-finite in
-    let if1 = c .if1 in
-    sym
-    (summing-not (idAt (args .h .inner) (now (args .file)) (args .p .place)) (wordAt (args .h .inner) (now (args .file)) (args .p .place))
-    (args .p .length) 0 (pre .some) (sym (ap finite (word-at .ensures)) ∙ sym (is-finite .ensures) ∙ not-true (is-finite .result) (if1 .taken)))
+    let first = c .before .before .word-at .ensures in
+    summing-not (idAt (args .h .inner) (now (args .file)) (args .p .place)) (wordAt (args .h .inner) (now (args .file)) (args .p .place))
+    (args .p .length) (pre .some) first (c .before .is-finite .ensures) (c .if1 .taken)
 
 id-at-requires : tie.Need-id-at-requires Inv-loop μ-loop
 id-at-requires c κs =
     let pre = c .before .before .before .before .pre in
-    (pre .array, pre .some)
+    (pre .elements, pre .some)
 
 start-requires : tie.Need-start-requires Inv-loop μ-loop
-start-requires c κs =
-    let is-finite = c .before .before .is-finite in
-    let if1 = c .before .if1 in
-    sym (is-finite .ensures) ∙ not-false (is-finite .result) (if1 .left)
+start-requires c κs = finite-told _ (c .before .before .is-finite .ensures) (c .before .if1 .left)
 
 float-from-bits-low : tie.Need-float-from-bits-low Inv-loop μ-loop
 float-from-bits-low c =
-    let word-at = c .before .before .before .before .word-at in
     let is-finite = c .before .before .before .is-finite in
-    let if1 = c .before .before .if1 in
-    finite-bits (word-at .result) (sym (is-finite .ensures) ∙ not-false (is-finite .result) (if1 .left))
+    finite-bits _ (finite-told _ (is-finite .ensures) (c .before .before .if1 .left))
 
 loop-holds : tie.Need-loop-holds Inv-loop μ-loop
 loop-holds c =
-    let start = c .start in
     let args = c .before .before .before .before .before .before .args in
     let pre = c .before .before .before .before .before .before .pre in
-    let id-at = c .before .id-at in
-    let word-at = c .before .before .before .before .word-at in
-    let is-finite = c .before .before .before .is-finite in
-    let if1 = c .before .before .if1 in
-    rw (start .ensures .0)
+    let first = c .before .before .before .before .word-at .ensures in
+    let fin = finite-told _ (c .before .before .before .is-finite .ensures) (c .before .before .if1 .left) in
+    rw (c .start .ensures .0)
     (summing-start (idAt (args .h .inner) (now (args .file)) (args .p .place)) (wordAt (args .h .inner) (now (args .file)) (args .p .place))
-    (args .p .length) (pre .some) (id-at .ensures .0) (word-at .ensures) (sym (is-finite .ensures) ∙ not-false (is-finite .result) (if1 .left)))
+    (args .p .length) (pre .some) (c .before .id-at .ensures .0) first fin)
 
 word-at-requires-2 : tie.Need-word-at-requires-2 Inv-loop μ-loop
 word-at-requires-2 c κs =
     let pre = c .before .before .before .before .before .before .before .before .before .pre in
-    let if2 = c .if2 in
-    (pre .array, if2 .taken)
+    (pre .elements, c .if2 .taken)
 
 returns-2 : tie.Need-returns-2 Inv-loop μ-loop
 unfolding partTotals
 returns-2 c =
     let args = c .before .before .before .before .before .before .before .before .before .before .before .before .args in
-    let loop = c .before .before .before .before .before .loop in
-    let if2 = c .before .before .before .if2 in
-    let word-at2 = c .before .before .word-at2 in
-    let is-finite2 = c .before .is-finite2 in
-    let if3 = c .if3 in
-    sym
-    (summing-not (idAt (args .h .inner) (now (args .file)) (args .p .place)) (wordAt (args .h .inner) (now (args .file)) (args .p .place))
-    (args .p .length) (loop .k) (if2 .taken)
-    (sym (ap finite (word-at2 .ensures)) ∙ sym (is-finite2 .ensures) ∙ not-true (is-finite2 .result) (if3 .taken)))
+    let below = c .before .before .before .if2 .taken in
+    let next = c .before .before .word-at2 .ensures in
+    summing-not (idAt (args .h .inner) (now (args .file)) (args .p .place)) (wordAt (args .h .inner) (now (args .file)) (args .p .place))
+    (args .p .length) below next (c .before .is-finite2 .ensures) (c .if3 .taken)
 
 float-from-bits-x : tie.Need-float-from-bits-x Inv-loop μ-loop
-float-from-bits-x c =
-    let word-at2 = c .before .before .word-at2 in
-    let is-finite2 = c .before .is-finite2 in
-    let if3 = c .if3 in
-    finite-bits (word-at2 .result) (sym (is-finite2 .ensures) ∙ not-false (is-finite2 .result) (if3 .left))
+float-from-bits-x c = finite-bits _ (finite-told _ (c .before .is-finite2 .ensures) (c .if3 .left))
 
 id-at-requires-2 : tie.Need-id-at-requires-2 Inv-loop μ-loop
 id-at-requires-2 c κs =
     let pre = c .before .before .before .before .before .before .before .before .before .before .before .before .before .pre in
-    let if2 = c .before .before .before .before .if2 in
-    (pre .array, if2 .taken)
+    (pre .elements, c .before .before .before .before .if2 .taken)
 
 raise-requires : tie.Need-raise-requires Inv-loop μ-loop
 raise-requires c κs =
-    let is-finite2 = c .before .before .before .is-finite2 in
-    let if3 = c .before .before .if3 in
-    let loop = c .before .before .before .before .before .before .before .loop in
-    let word-at2 = c .before .before .before .before .word-at2 in
-    let if4 = c .before .if4 in
-    let fin = sym (is-finite2 .ensures) ∙ not-false (is-finite2 .result) (if3 .left) in
-    (fin, (loop .inv .good, above (loop .inv) (word-at2 .result) fin (if4 .taken)))
+    let s = c .before .before .before .before .before .before .before .loop .inv in
+    let v = c .before .before .before .before .word-at2 .result in
+    let fin = finite-told _ (c .before .before .before .is-finite2 .ensures) (c .before .before .if3 .left) in
+    (fin, (s .good, above s v fin (c .before .if4 .taken)))
 
 id-at-requires-3 : tie.Need-id-at-requires-3 Inv-loop μ-loop
 id-at-requires-3 c κs =
     let pre = c .before .before .before .before .before .before .before .before .before .before .before .before .before .before .pre in
-    let if2 = c .before .before .before .before .before .if2 in
-    (pre .array, if2 .taken)
+    (pre .elements, c .before .before .before .before .before .if2 .taken)
 
 lower-requires : tie.Need-lower-requires Inv-loop μ-loop
 lower-requires c κs =
-    let is-finite2 = c .before .before .before .before .is-finite2 in
-    let if3 = c .before .before .before .if3 in
-    let loop = c .before .before .before .before .before .before .before .before .loop in
-    let word-at2 = c .before .before .before .before .before .word-at2 in
-    let if4 = c .before .before .if4 in
-    let if5 = c .before .if5 in
-    let fin = sym (is-finite2 .ensures) ∙ not-false (is-finite2 .result) (if3 .left) in
-    (fin, (loop .inv .good, not-above (loop .inv) (word-at2 .result) fin (if4 .left) (if5 .taken)))
+    let s = c .before .before .before .before .before .before .before .before .loop .inv in
+    let v = c .before .before .before .before .before .word-at2 .result in
+    let fin = finite-told _ (c .before .before .before .before .is-finite2 .ensures) (c .before .before .before .if3 .left) in
+    (fin, (s .good, not-above s v fin (c .before .before .if4 .left) (c .before .if5 .taken)))
 
 add-requires : tie.Need-add-requires Inv-loop μ-loop
 add-requires c κs =
-    let is-finite2 = c .before .before .before .is-finite2 in
-    let if3 = c .before .before .if3 in
-    let loop = c .before .before .before .before .before .before .before .loop in
-    let word-at2 = c .before .before .before .before .word-at2 in
-    let if4 = c .before .if4 in
-    let if5 = c .if5 in
-    let fin = sym (is-finite2 .ensures) ∙ not-false (is-finite2 .result) (if3 .left) in
-    (fin, (loop .inv .good, not-above (loop .inv) (word-at2 .result) fin (if4 .left) (if5 .left)))
+    let s = c .before .before .before .before .before .before .before .loop .inv in
+    let v = c .before .before .before .before .word-at2 .result in
+    let fin = finite-told _ (c .before .before .before .is-finite2 .ensures) (c .before .before .if3 .left) in
+    (fin, (s .good, not-above s v fin (c .before .if4 .left) (c .if5 .left)))
 
 loop-again : tie.Need-loop-again Inv-loop μ-loop
 loop-again c =
     let s = c .before .before .before .before .before .before .loop .inv in
     let v = c .before .before .before .word-at2 .result in
-    let fin = sym (c .before .before .is-finite2 .ensures) ∙ not-false (c .before .before .is-finite2 .result) (c .before .if3 .left) in
+    let fin = finite-told _ (c .before .before .is-finite2 .ensures) (c .before .if3 .left) in
     let l = c .before .before .before .before .if2 .taken in
     let e = c .before .before .before .word-at2 .ensures in
     ⊎-elim
@@ -161,13 +123,11 @@ finish-requires c κs =
 returns-3 : tie.Need-returns-3 Inv-loop μ-loop
 unfolding partTotals
 returns-3 c =
-    let finish = c .finish in
     let args = c .before .before .before .before .before .before .before .before .before .before .args in
     let loop = c .before .before .before .loop in
-    let if2 = c .before .if2 in
-    finish .ensures ∙ sym
+    c .finish .ensures ∙ sym
     (summing-all (idAt (args .h .inner) (now (args .file)) (args .p .place)) (wordAt (args .h .inner) (now (args .file)) (args .p .place))
-    (args .p .length) (loop .inv) (if2 .left))
+    (args .p .length) (loop .inv) (c .before .if2 .left))
 
 pub part-totals-spec : {M : Type 1} → statement M
 part-totals-spec =

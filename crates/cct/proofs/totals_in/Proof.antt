@@ -10,30 +10,24 @@ returns : tie.Need-returns
 unfolding totalsIn atIndex
 returns c =
     let index-of = c .before .before .index-of in
-    let enum-told = c .enum-told in
-    rw (← index-of .ensures, enum-told .given .1)
+    rw (← index-of .ensures, c .enum-told .given .1)
 
 part-at-requires : tie.Need-part-at-requires
 part-at-requires c κs =
     let pre = c .before .before .before .before .before .pre in
     let args = c .before .before .before .before .before .args in
     let index-of = c .before .before .before .index-of in
-    let i = c .before .i in
-    (pre, index-below pre (args .outer) _ (index-of .ensures) (i .given .1))
+    (pre, index-below pre (args .outer) _ (index-of .ensures) (c .before .i .given .1))
 
 part-totals-requires : tie.Need-part-totals-requires
-part-totals-requires c κs =
-    let part-at = c .part-at in
-    part-at .ensures .1
+part-totals-requires c κs = c .part-at .ensures .1
 
 returns-2 : tie.Need-returns-2
 unfolding totalsIn atIndex
 returns-2 c =
-    let part-totals = c .part-totals in
     let index-of = c .before .before .before .before .before .index-of in
     let i = c .before .before .before .i in
-    let part-at = c .before .part-at in
-    part-totals .ensures ∙ rw (← index-of .ensures, i .given .1, ← part-at .ensures .0)
+    c .part-totals .ensures ∙ rw (← index-of .ensures, i .given .1, ← c .before .part-at .ensures .0)
 
 pub totals-in-spec : {M : Type 1} → statement M
 totals-in-spec =

@@ -1,5 +1,5 @@
 -- By whether it is present; then it stands inside the words that the flags need.
-use Rattle.context.specs.Context.{ifPresent}
+use Rattle.refusal.specs.Check.{either}
 use native.Mathlib.Omega.{arith}
 use Rattle.context.proofs.Laws.{field-inside}
 use borrow.Author.Needs.{needs}
@@ -15,7 +15,7 @@ mul-load-u64 c =
     let good = c .before .before .before .good in
     omega (
       arith,
-      field-inside (args .kind) (args .j) (before2 .result) (args .present) (pre .1 .0) (pre .1 .1) (if1 .taken) (before2 .ensures),
+      field-inside (args .flags) (args .j) (before2 .result) (args .present) (pre .1 .0) (pre .1 .1) (if1 .taken) (before2 .ensures),
       pre .0,
       good,
     )
@@ -29,7 +29,7 @@ add-load-u64-2 c =
     let good = c .before .before .before .good in
     omega (
       arith,
-      field-inside (args .kind) (args .j) (before2 .result) (args .present) (pre .1 .0) (pre .1 .1) (if1 .taken) (before2 .ensures),
+      field-inside (args .flags) (args .j) (before2 .result) (args .present) (pre .1 .0) (pre .1 .1) (if1 .taken) (before2 .ensures),
       pre .0,
       good,
     )
@@ -42,12 +42,12 @@ load-u64-requires c κs =
     let if1 = c .before .if1 in
     omega (
       arith,
-      field-inside (args .kind) (args .j) (before2 .result) (args .present) (pre .1 .0) (pre .1 .1) (if1 .taken) (before2 .ensures),
+      field-inside (args .flags) (args .j) (before2 .result) (args .present) (pre .1 .0) (pre .1 .1) (if1 .taken) (before2 .ensures),
       pre .0,
     )
 
 returns : tie.Need-returns
-unfolding ifPresent
+unfolding either
 returns c =
     let if1 = c .before .before .if1 in
     let load-u64 = c .load-u64 in
@@ -55,7 +55,7 @@ returns c =
     rw (if1 .taken, load-u64 .ensures, before2 .ensures)
 
 returns-2 : tie.Need-returns-2
-unfolding ifPresent
+unfolding either
 returns-2 c =
     let if1 = c .if1 in
     rw (if1 .left)

@@ -1,5 +1,5 @@
 -- By whether it is present; then it stands inside the words that the flags need.
-use Rattle.context.specs.Context.{ifPresent}
+use Rattle.refusal.specs.Check.{either}
 use native.Mathlib.Omega.{arith}
 use Rattle.context.proofs.Laws.{field-inside}
 use borrow.Author.Needs.{needs}
@@ -16,7 +16,7 @@ mul-load-u32 c =
     let good = c .before .before .before .before .good in
     omega (
       arith,
-      field-inside (args .kind) 2 (before2 .result) (has-source .result) (omega arith) (has-source .ensures) (if1 .taken) (before2 .ensures),
+      field-inside (args .flags) 2 (before2 .result) (has-source .result) (omega arith) (has-source .ensures) (if1 .taken) (before2 .ensures),
       pre,
       good,
     )
@@ -31,7 +31,7 @@ add-load-u32-2 c =
     let good = c .before .before .before .before .good in
     omega (
       arith,
-      field-inside (args .kind) 2 (before2 .result) (has-source .result) (omega arith) (has-source .ensures) (if1 .taken) (before2 .ensures),
+      field-inside (args .flags) 2 (before2 .result) (has-source .result) (omega arith) (has-source .ensures) (if1 .taken) (before2 .ensures),
       pre,
       good,
     )
@@ -45,12 +45,12 @@ load-u32-requires c κs =
     let pre = c .before .before .before .before .pre in
     omega (
       arith,
-      field-inside (args .kind) 2 (before2 .result) (has-source .result) (omega arith) (has-source .ensures) (if1 .taken) (before2 .ensures),
+      field-inside (args .flags) 2 (before2 .result) (has-source .result) (omega arith) (has-source .ensures) (if1 .taken) (before2 .ensures),
       pre,
     )
 
 returns : tie.Need-returns
-unfolding ifPresent
+unfolding either
 returns c =
     let has-source = c .before .before .before .has-source in
     let if1 = c .before .before .if1 in
@@ -59,7 +59,7 @@ returns c =
     rw (← has-source .ensures, if1 .taken, load-u32 .ensures, before2 .ensures)
 
 returns-2 : tie.Need-returns-2
-unfolding ifPresent
+unfolding either
 returns-2 c =
     let has-source = c .before .has-source in
     let if1 = c .if1 in

@@ -1,5 +1,5 @@
 -- By whether the file opens.
-use Rattle.function.specs.Function.{functionAt, functionIn}
+use Rattle.function.specs.Function.{functionAt}
 use Rattle.open.specs.Format.{meta}
 use Rattle.open.proofs.Answer.{answers, refuses, told-passed}
 use mathlib.Core.Path.{_∙_}
@@ -10,28 +10,24 @@ use Rattle.function.proofs.function_at.Tie as tie
 
 function-in-requires : tie.Need-function-in-requires
 function-in-requires c κs =
-    let meta-sections = c .before .before .before .before .meta-sections in
-    let check-meta = c .before .before .check-meta in
-    told-passed meta _ (meta-sections .ensures) (check-meta .ensures) (c .enum-told .given .1)
+    let meta-sections = c .before .before .before .before .before .meta-sections in
+    let check-meta = c .before .before .before .check-meta in
+    told-passed meta _ (meta-sections .ensures) (check-meta .ensures) (c .before .enum-told .given .1)
 
 returns : tie.Need-returns
 unfolding functionAt
 returns c =
-    let args = c .before .before .before .before .before .before .before .args in
-    let meta-sections = c .before .before .before .before .before .meta-sections in
-    let check-meta = c .before .before .before .check-meta in
-    let enum-told = c .before .enum-told in
-    let file = args .file .now in
-    c .function-in .ensures ∙ answers meta file (meta-sections .ensures) (check-meta .ensures) Refused (λ ps. functionIn file ps (args .i))
-    (enum-told .given .1)
+    let meta-sections = c .before .before .before .before .before .before .meta-sections in
+    let check-meta = c .before .before .before .before .check-meta in
+    let enum-told = c .before .before .enum-told in
+    c .function-in .ensures ∙ answers meta _ (meta-sections .ensures) (check-meta .ensures) Refused _ (enum-told .given .1)
 
 returns-2 : tie.Need-returns-2
 unfolding functionAt
 returns-2 c =
     let meta-sections = c .before .before .before .before .before .meta-sections in
     let check-meta = c .before .before .before .check-meta in
-    let check = c .before .check in
-    refuses meta _ (meta-sections .ensures) (check-meta .ensures) Refused _ _ (check .given .1)
+    refuses meta _ (meta-sections .ensures) (check-meta .ensures) Refused _ _ (c .before .check .given .1)
 
 pub function-at-spec : {M : Type 1} → statement M
 function-at-spec =

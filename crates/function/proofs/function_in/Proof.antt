@@ -1,33 +1,30 @@
--- By whether the element is there.
+-- By whether the element is there; the arrays' headers stand in the file, which opens.
+use Rattle.open.specs.Format.{meta}
+use Rattle.open.specs.Names as Section
+use Rattle.array.specs.Element.{onElement}
 use Rattle.array.proofs.Bounds.{header-in, bounded}
 use native.Mathlib.Omega.{arith}
-use Rattle.open.specs.Format.{meta, u16, u32, held}
-use mathlib.Core.Path.{refl}
-use Rattle.array.specs.Element.{onElement}
 use borrow.Author.Needs.{needs}
 use Rattle.function.proofs.function_in.Statement.{statement}
 use Rattle.function.proofs.function_in.Tie as tie
 
 of-specs-requires : tie.Need-of-specs-requires
-of-specs-requires c κs = header-in meta (c .before .before .args .file .now) (c .before .before .pre) 5 (omega arith) (omega arith)
+of-specs-requires c κs = header-in meta _ (c .before .before .pre) Section.modules (omega arith)
 
 of-specs-requires-2 : tie.Need-of-specs-requires-2
 of-specs-requires-2 c κs =
-    let args = c .before .before .before .before .args in
     let pre = c .before .before .before .before .pre in
-    header-in meta (args .file .now) pre 6 (omega arith) (omega arith)
+    header-in meta _ pre Section.files (omega arith)
 
 of-specs-requires-3 : tie.Need-of-specs-requires-3
 of-specs-requires-3 c κs =
-    let args = c .before .before .before .before .before .before .args in
     let pre = c .before .before .before .before .before .before .pre in
-    header-in meta (args .file .now) pre 7 (omega arith) (omega arith)
+    header-in meta _ pre Section.functions (omega arith)
 
 nth-requires : tie.Need-nth-requires
 nth-requires c κs =
-    let args = c .before .before .before .before .before .before .before .args in
-    let pre = c .before .before .before .before .before .before .before .pre in
-    bounded meta (args .file .now) (omega arith) pre 7 (omega arith) (u32 8) (held (u16 12)) refl (omega arith) (c .of-specs3 .ensures)
+    let start = c .before .before .before .before .before .before .before in
+    bounded meta (start .args .file .now) (omega arith) (start .pre) Section.functions (omega arith) (c .of-specs3 .ensures)
 
 returns : tie.Need-returns
 unfolding onElement
@@ -42,12 +39,9 @@ returns c =
 returns-2 : tie.Need-returns-2
 unfolding onElement
 returns-2 c =
-    let of-specs = c .before .before .before .before .before .before .before .before .of-specs in
-    let of-specs2 = c .before .before .before .before .before .before .of-specs2 in
     let of-specs3 = c .before .before .before .before .of-specs3 in
     let nth = c .before .before .before .nth in
-    let r = c .before .r in
-    rw (← of-specs .ensures, ← of-specs2 .ensures, ← of-specs3 .ensures, ← nth .ensures, r .given .1)
+    rw (← of-specs3 .ensures, ← nth .ensures, c .before .r .given .1)
 
 pub function-in-spec : {M : Type 1} → statement M
 function-in-spec =

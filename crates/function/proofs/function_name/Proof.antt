@@ -4,9 +4,7 @@ use Rattle.function.proofs.function_name.Statement.{statement}
 use Rattle.function.proofs.function_name.Tie as tie
 
 returns : tie.Need-returns
-returns c =
-    let function-at = c .before .before .function-at in
-    (rw (c .name-bytes .ensures .0, function-at .ensures), rw (c .name-bytes .ensures .1, function-at .ensures))
+returns c = rw (← c .before .before .function-at .ensures) (c .name-bytes .ensures)
 
 pub function-name-spec : {M : Type 1} → statement M
 function-name-spec = tie.close (tie.spec (λ c κs. search needs) (λ c κs. search needs) returns)

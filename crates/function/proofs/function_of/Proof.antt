@@ -1,4 +1,6 @@
 -- The fields read; by the links, then by the name.
+use mathlib.Core.Path.{_≡_}
+use Rattle.function.specs.declared.Function.the-variants.{Found, Refused}
 use Rattle.function.specs.Function.{functionOf}
 use Rattle.refusal.specs.Check.{rule, ifPassed}
 use Rattle.text.specs.String.{onText}
@@ -6,44 +8,46 @@ use borrow.Author.Needs.{needs}
 use Rattle.function.proofs.function_of.Statement.{statement}
 use Rattle.function.proofs.function_of.Tie as tie
 
+-- once the links are kept
+by-name : (c : tie.After-name-text) → let a = c .before .before .before .before .before .before .before .before .before .args in
+    let reads = c .before .before .before in
+    functionOf (a .file .now) (a .strings) (a .modules) (a .files) (a .at) ≡ onText Refused (c .name-text .result) (λ name n.
+    Found name n (reads .before .before .before .u64-at2 .result) (reads .before .before .u64-at3 .result) (reads .before .u64-at4 .result)
+    (reads .u32-at .result))
+unfolding functionOf ifPassed rule
+by-name c =
+    let reads = c .before .before .before in
+    rw (
+      ← reads .u32-at .ensures,
+      ← reads .before .u64-at4 .ensures,
+      ← reads .before .before .u64-at3 .ensures,
+      ← reads .before .before .before .u64-at2 .ensures,
+      ← reads .before .before .before .before .u64-at .ensures,
+      ← c .before .before .links-kept .ensures,
+      c .before .if1 .taken,
+      ← c .name-text .ensures,
+    )
+
 returns : tie.Need-returns
-unfolding functionOf ifPassed rule onText
-returns c =
-    let u32-at = c .before .before .before .before .before .before .u32-at in
-    let u64-at4 = c .before .before .before .before .before .before .before .u64-at4 in
-    let u64-at3 = c .before .before .before .before .before .before .before .before .u64-at3 in
-    let u64-at2 = c .before .before .before .before .before .before .before .before .before .u64-at2 in
-    let u64-at = c .before .before .before .before .before .before .before .before .before .before .u64-at in
-    let links-kept = c .before .before .before .before .before .links-kept in
-    let if1 = c .before .before .before .before .if1 in
-    let name-text = c .before .before .before .name-text in
-    let place = c .before .place in
-    rw (← u32-at .ensures, ← u64-at4 .ensures, ← u64-at3 .ensures, ← u64-at2 .ensures, ← u64-at .ensures, ← links-kept .ensures, if1 .taken, ← name-text .ensures, place .given .1)
+unfolding onText
+returns c = rw (by-name (c .before .before .before), c .before .place .given .1)
 
 returns-2 : tie.Need-returns-2
-unfolding functionOf ifPassed rule onText
-returns-2 c =
-    let u32-at = c .before .before .before .before .before .before .u32-at in
-    let u64-at4 = c .before .before .before .before .before .before .before .u64-at4 in
-    let u64-at3 = c .before .before .before .before .before .before .before .before .u64-at3 in
-    let u64-at2 = c .before .before .before .before .before .before .before .before .before .u64-at2 in
-    let u64-at = c .before .before .before .before .before .before .before .before .before .before .u64-at in
-    let links-kept = c .before .before .before .before .before .links-kept in
-    let if1 = c .before .before .before .before .if1 in
-    let name-text = c .before .before .before .name-text in
-    let r = c .before .r in
-    rw (← u32-at .ensures, ← u64-at4 .ensures, ← u64-at3 .ensures, ← u64-at2 .ensures, ← u64-at .ensures, ← links-kept .ensures, if1 .taken, ← name-text .ensures, r .given .1)
+unfolding onText
+returns-2 c = rw (by-name (c .before .before .before), c .before .r .given .1)
 
 returns-3 : tie.Need-returns-3
-unfolding functionOf ifPassed rule onText
+unfolding functionOf ifPassed rule
 returns-3 c =
-    let u32-at = c .before .before .u32-at in
-    let u64-at4 = c .before .before .before .u64-at4 in
-    let u64-at3 = c .before .before .before .before .u64-at3 in
-    let u64-at2 = c .before .before .before .before .before .u64-at2 in
-    let u64-at = c .before .before .before .before .before .before .u64-at in
-    let links-kept = c .before .links-kept in
-    rw (← u32-at .ensures, ← u64-at4 .ensures, ← u64-at3 .ensures, ← u64-at2 .ensures, ← u64-at .ensures, ← links-kept .ensures, c .if1 .left)
+    let kept = c .before in
+    let reads = kept .before .before .before in
+    rw (
+      ← kept .before .before .u64-at4 .ensures,
+      ← reads .before .u64-at2 .ensures,
+      ← reads .before .before .u64-at .ensures,
+      ← kept .links-kept .ensures,
+      c .if1 .left,
+    )
 
 pub function-of-spec : {M : Type 1} → statement M
 function-of-spec =

@@ -1,17 +1,19 @@
 -- By the answer's case, and by whether there is a name.
 use Rattle.function.specs.Function.{nameBytes, nameWhich}
-use Rattle.function.proofs.Name.{or-none, or-some}
+use Rattle.refusal.specs.Check.{either}
+use mathlib.Core.Path.{refl}
+use borrow.Author.Tests.{eq-eqb, ne-eqb}
 use borrow.Author.Needs.{needs}
 use Rattle.function.proofs.name_bytes.Statement.{statement}
 use Rattle.function.proofs.name_bytes.Tie as tie
 
 returns : tie.Need-returns
-unfolding nameBytes nameWhich
-returns c = rw (c .before .before .answer .given .1) (or-none _ _ _ (c .if1 .taken))
+unfolding nameBytes nameWhich either
+returns c = rw (c .before .before .answer .given .1, eq-eqb _ 0 (c .if1 .taken)) (refl, refl)
 
 returns-2 : tie.Need-returns-2
-unfolding nameBytes nameWhich
-returns-2 c = rw (c .before .before .before .answer .given .1, c .part .ensures) (or-some _ _ _ (c .before .if1 .left))
+unfolding nameBytes nameWhich either
+returns-2 c = rw (c .before .before .before .answer .given .1, c .part .ensures, ne-eqb _ 0 (c .before .if1 .left)) (refl, refl)
 
 returns-3 : tie.Need-returns-3
 unfolding nameBytes nameWhich

@@ -9,15 +9,13 @@ use Rattle.hpcdb.proofs.hpcdb_cct_lookup_many.Tie as tie
 
 cast-result : tie.Need-cast-result
 cast-result c =
-    let code = c .code in
     let cct-lookups = c .before .before .before .cct-lookups in
-    omega (arith, code .ensures, code-small (cct-lookups .result))
+    omega (arith, c .code .ensures, code-small (cct-lookups .result))
 
 returns : tie.Need-returns
 returns c =
-    let code = c .code in
     let cct-lookups = c .before .before .before .cct-lookups in
-    (code .ensures ∙ ap codeOf (cct-lookups .ensures .0), cct-lookups .ensures .1)
+    (c .code .ensures ∙ ap codeOf (cct-lookups .ensures .0), cct-lookups .ensures .1)
 
 pub hpcdb-cct-lookup-many-spec : {M : Type 1} → statement M
 hpcdb-cct-lookup-many-spec =

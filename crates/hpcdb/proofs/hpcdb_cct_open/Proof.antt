@@ -6,8 +6,7 @@ use Rattle.hpcdb.proofs.hpcdb_cct_open.Tie as tie
 returns : tie.Need-returns
 returns c =
     let contexts = c .before .before .contexts in
-    let put-count = c .put-count in
-    rw (← contexts .ensures) (put-count .ensures)
+    rw (← contexts .ensures) (c .put-count .ensures)
 
 pub hpcdb-cct-open-spec : {M : Type 1} → statement M
 hpcdb-cct-open-spec = tie.close (tie.spec (λ c κs. search needs) (λ c κs. search needs) returns)

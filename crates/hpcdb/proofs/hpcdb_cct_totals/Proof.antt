@@ -6,8 +6,7 @@ use Rattle.hpcdb.proofs.hpcdb_cct_totals.Tie as tie
 returns : tie.Need-returns
 returns c =
     let totals = c .before .before .totals in
-    let put-totals = c .put-totals in
-    rw (← totals .ensures) (put-totals .ensures)
+    rw (← totals .ensures) (c .put-totals .ensures)
 
 pub hpcdb-cct-totals-spec : {M : Type 1} → statement M
 hpcdb-cct-totals-spec = tie.close (tie.spec (λ c κs. search needs) (λ c κs. search needs) returns)

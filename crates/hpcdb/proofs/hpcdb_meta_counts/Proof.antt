@@ -19,15 +19,13 @@ returns : tie.Need-returns
 returns c =
     let args = c .before .before .before .before .before .args in
     let counts = c .before .before .counts in
-    let if1 = c .before .if1 in
-    counts-refused (now (args .file)) (counts .ensures .1) (if1 .taken) (now (args .out))
+    counts-refused (now (args .file)) (counts .ensures .1) (c .before .if1 .taken) (now (args .out))
 
 returns-2 : tie.Need-returns-2
 returns-2 c =
     let counts = c .before .counts in
     let args = c .before .before .before .before .args in
-    let if1 = c .if1 in
-    rw (counts .ensures .0) (answered (now (args .out)) (counts-told (now (args .file)) (counts .ensures .1) (if1 .left)))
+    rw (counts .ensures .0) (answered (now (args .out)) (counts-told (now (args .file)) (counts .ensures .1) (c .if1 .left)))
 
 pub hpcdb-meta-counts-spec : {M : Type 1} → statement M
 hpcdb-meta-counts-spec = tie.close (tie.spec (λ c κs. search needs) cast-result returns returns-2)

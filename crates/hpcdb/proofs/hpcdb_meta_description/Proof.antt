@@ -6,8 +6,7 @@ use Rattle.hpcdb.proofs.hpcdb_meta_description.Tie as tie
 returns : tie.Need-returns
 returns c =
     let description-at = c .before .before .description-at in
-    let put-text = c .put-text in
-    rw (← description-at .ensures) (put-text .ensures)
+    rw (← description-at .ensures) (c .put-text .ensures)
 
 pub hpcdb-meta-description-spec : {M : Type 1} → statement M
 hpcdb-meta-description-spec =

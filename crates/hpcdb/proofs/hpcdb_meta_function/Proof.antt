@@ -6,8 +6,7 @@ use Rattle.hpcdb.proofs.hpcdb_meta_function.Tie as tie
 returns : tie.Need-returns
 returns c =
     let function-at = c .before .before .function-at in
-    let put-function = c .put-function in
-    rw (← function-at .ensures) (put-function .ensures)
+    rw (← function-at .ensures) (c .put-function .ensures)
 
 pub hpcdb-meta-function-spec : {M : Type 1} → statement M
 hpcdb-meta-function-spec = tie.close (tie.spec (λ c κs. search needs) (λ c κs. search needs) returns)

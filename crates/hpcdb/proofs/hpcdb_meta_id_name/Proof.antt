@@ -6,8 +6,7 @@ use Rattle.hpcdb.proofs.hpcdb_meta_id_name.Tie as tie
 returns : tie.Need-returns
 returns c =
     let kind-at = c .before .before .kind-at in
-    let put-text = c .put-text in
-    rw (← kind-at .ensures) (put-text .ensures)
+    rw (← kind-at .ensures) (c .put-text .ensures)
 
 pub hpcdb-meta-id-name-spec : {M : Type 1} → statement M
 hpcdb-meta-id-name-spec = tie.close (tie.spec (λ c κs. search needs) (λ c κs. search needs) returns)

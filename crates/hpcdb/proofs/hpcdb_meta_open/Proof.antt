@@ -1,11 +1,10 @@
 -- By whether the file opens.
 use Rattle.hpcdb.proofs.Laws.{sections-flat}
 use Rattle.words.proofs.Laws.{answered, refused}
-use Rattle.words.specs.Convention.{flat, openWords}
+use Rattle.words.specs.Convention.{flat}
 use Rattle.open.proofs.Answer.{answers, refuses, told-passed}
 use Rattle.open.specs.Format.{meta}
-use Rattle.open.specs.Opening.{pairs}
-use Rattle.refusal.specs.Number.{numberOf}
+use Rattle.refusal.specs.Words.{refusedWords}
 use mathlib.Core.List.{[], _∷_}
 use mathlib.Core.Path.{sym}
 use denote.Ref.{now}
@@ -14,29 +13,26 @@ use Rattle.hpcdb.proofs.hpcdb_meta_open.Statement.{statement}
 use Rattle.hpcdb.proofs.hpcdb_meta_open.Tie as tie
 
 returns : tie.Need-returns
-unfolding openWords
 returns c =
-    let args = c .before .before .before .before .before .before .before .before .before .before .before .before .before .before .before .before .before .before .before .before .before .before .before .args in
-    let meta-sections = c .before .before .before .before .before .before .before .before .before .before .before .before .before .before .before .before .before .before .before .before .before .meta-sections in
-    let check-meta = c .before .before .before .before .before .before .before .before .before .before .before .before .before .before .before .before .before .before .before .check-meta in
-    let enum-told = c .before .before .before .before .before .before .before .before .before .before .before .before .before .before .before .before .before .enum-told in
+    let d = c .before .before .before .before .before .before .before .before in
+    let e = d .before .before .before .before .before .before .before .before .before in
+    let args = e .before .before .before .before .before .before .args in
+    let read = e .before .before .before .before .meta-sections .ensures in
+    let check = e .before .before .check-meta .ensures in
+    let passed = e .enum-told .given .1 in
     let file = now (args .file) in
-    let read = meta-sections .ensures in
-    let opened = answers meta file read (check-meta .ensures) (λ r. numberOf r ∷ []) (λ ps. 0 ∷ flat ps) (enum-told .given .1) in
-    let sections = told-passed meta file read (check-meta .ensures) (enum-told .given .1) in
-    rw (sections-flat file _ (sections .same)) (answered (now (args .out)) (sym opened))
+    let opened = answers meta file read check refusedWords (λ ps. 0 ∷ flat ps) passed in
+    rw (sections-flat file _ (told-passed meta file read check passed .same)) (answered (now (args .out)) (sym opened))
 
 returns-2 : tie.Need-returns-2
-unfolding openWords
 returns-2 c =
     let args = c .before .before .before .before .before .before .before .before .args in
     let meta-sections = c .before .before .before .before .before .before .meta-sections in
     let check-meta = c .before .before .before .before .check-meta in
     let check = c .before .before .check in
-    let code = c .code in
-    let told = refuses meta (now (args .file)) (meta-sections .ensures) (check-meta .ensures) (λ r. numberOf r ∷ [])
-    (0 ∷ flat (pairs meta (now (args .file)))) _ (check .given .1) in
-    refused (now (args .out)) (check .given .0 .0) [] (sym told) (code .ensures)
+    let told = refuses meta (now (args .file)) (meta-sections .ensures) (check-meta .ensures) refusedWords (λ ps. 0 ∷ flat ps) _
+    (check .given .1) in
+    refused (now (args .out)) (check .given .0 .0) [] (sym told) (c .code .ensures)
 
 pub hpcdb-meta-open-spec : {M : Type 1} → statement M
 hpcdb-meta-open-spec =

@@ -1,4 +1,5 @@
 -- The walk says all of it.
+use Rattle.traversal.proofs.Demand3.{said-as}
 use borrow.Author.Needs.{needs}
 use Rattle.hpcdb.proofs.hpcdb_meta_records.Statement.{statement}
 use Rattle.hpcdb.proofs.hpcdb_meta_records.Tie as tie
@@ -6,8 +7,7 @@ use Rattle.hpcdb.proofs.hpcdb_meta_records.Tie as tie
 returns : tie.Need-returns
 returns c =
     let records = c .before .before .before .before .before .before .before .before .records in
-    let put-walked = c .put-walked in
-    rw (← records .ensures .0) (put-walked .ensures .0, (put-walked .ensures .1, records .ensures .1))
+    said-as (records .ensures) (c .put-walked .ensures)
 
 pub hpcdb-meta-records-spec : {M : Type 1} → statement M
 hpcdb-meta-records-spec =

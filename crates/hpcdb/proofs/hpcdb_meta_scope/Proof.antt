@@ -6,8 +6,7 @@ use Rattle.hpcdb.proofs.hpcdb_meta_scope.Tie as tie
 returns : tie.Need-returns
 returns c =
     let scope-at = c .before .before .scope-at in
-    let put-scope = c .put-scope in
-    rw (← scope-at .ensures) (put-scope .ensures)
+    rw (← scope-at .ensures) (c .put-scope .ensures)
 
 pub hpcdb-meta-scope-spec : {M : Type 1} → statement M
 hpcdb-meta-scope-spec = tie.close (tie.spec (λ c κs. search needs) (λ c κs. search needs) returns)

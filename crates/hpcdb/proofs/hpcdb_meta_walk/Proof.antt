@@ -1,4 +1,5 @@
 -- The walk says all of it.
+use Rattle.traversal.proofs.Demand3.{said-as}
 use borrow.Author.Needs.{needs}
 use Rattle.hpcdb.proofs.hpcdb_meta_walk.Statement.{statement}
 use Rattle.hpcdb.proofs.hpcdb_meta_walk.Tie as tie
@@ -6,8 +7,7 @@ use Rattle.hpcdb.proofs.hpcdb_meta_walk.Tie as tie
 returns : tie.Need-returns
 returns c =
     let walk = c .before .before .before .before .before .before .walk in
-    let put-walked = c .put-walked in
-    rw (← walk .ensures .0) (put-walked .ensures .0, (put-walked .ensures .1, walk .ensures .1))
+    said-as (walk .ensures) (c .put-walked .ensures)
 
 pub hpcdb-meta-walk-spec : {M : Type 1} → statement M
 hpcdb-meta-walk-spec =

@@ -6,8 +6,7 @@ use Rattle.hpcdb.proofs.hpcdb_profile_identifier.Tie as tie
 returns : tie.Need-returns
 returns c =
     let identifier-at = c .before .before .identifier-at in
-    let put-identifier = c .put-identifier in
-    rw (← identifier-at .ensures) (put-identifier .ensures)
+    rw (← identifier-at .ensures) (c .put-identifier .ensures)
 
 pub hpcdb-profile-identifier-spec : {M : Type 1} → statement M
 hpcdb-profile-identifier-spec =

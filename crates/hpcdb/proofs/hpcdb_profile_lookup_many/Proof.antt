@@ -9,15 +9,13 @@ use Rattle.hpcdb.proofs.hpcdb_profile_lookup_many.Tie as tie
 
 cast-result : tie.Need-cast-result
 cast-result c =
-    let code = c .code in
     let profile-lookups = c .before .before .before .profile-lookups in
-    omega (arith, code .ensures, code-small (profile-lookups .result))
+    omega (arith, c .code .ensures, code-small (profile-lookups .result))
 
 returns : tie.Need-returns
 returns c =
-    let code = c .code in
     let profile-lookups = c .before .before .before .profile-lookups in
-    (code .ensures ∙ ap codeOf (profile-lookups .ensures .0), profile-lookups .ensures .1)
+    (c .code .ensures ∙ ap codeOf (profile-lookups .ensures .0), profile-lookups .ensures .1)
 
 pub hpcdb-profile-lookup-many-spec : {M : Type 1} → statement M
 hpcdb-profile-lookup-many-spec =

@@ -6,8 +6,7 @@ use Rattle.hpcdb.proofs.hpcdb_profile_open.Tie as tie
 returns : tie.Need-returns
 returns c =
     let profiles = c .before .before .profiles in
-    let put-count = c .put-count in
-    rw (← profiles .ensures) (put-count .ensures)
+    rw (← profiles .ensures) (c .put-count .ensures)
 
 pub hpcdb-profile-open-spec : {M : Type 1} → statement M
 hpcdb-profile-open-spec = tie.close (tie.spec (λ c κs. search needs) (λ c κs. search needs) returns)

@@ -6,8 +6,7 @@ use Rattle.hpcdb.proofs.hpcdb_profile_tuple.Tie as tie
 returns : tie.Need-returns
 returns c =
     let tuple-at = c .before .before .tuple-at in
-    let put-tuple = c .put-tuple in
-    rw (← tuple-at .ensures) (put-tuple .ensures)
+    rw (← tuple-at .ensures) (c .put-tuple .ensures)
 
 pub hpcdb-profile-tuple-spec : {M : Type 1} → statement M
 hpcdb-profile-tuple-spec = tie.close (tie.spec (λ c κs. search needs) (λ c κs. search needs) returns)

@@ -6,8 +6,7 @@ use Rattle.hpcdb.proofs.hpcdb_trace_line.Tie as tie
 returns : tie.Need-returns
 returns c =
     let line-at = c .before .before .line-at in
-    let put-line = c .put-line in
-    rw (← line-at .ensures) (put-line .ensures)
+    rw (← line-at .ensures) (c .put-line .ensures)
 
 pub hpcdb-trace-line-spec : {M : Type 1} → statement M
 hpcdb-trace-line-spec = tie.close (tie.spec (λ c κs. search needs) (λ c κs. search needs) returns)

@@ -6,8 +6,7 @@ use Rattle.hpcdb.proofs.hpcdb_trace_open.Tie as tie
 returns : tie.Need-returns
 returns c =
     let lines = c .before .before .lines in
-    let put-count = c .put-count in
-    rw (← lines .ensures) (put-count .ensures)
+    rw (← lines .ensures) (c .put-count .ensures)
 
 pub hpcdb-trace-open-spec : {M : Type 1} → statement M
 hpcdb-trace-open-spec = tie.close (tie.spec (λ c κs. search needs) (λ c κs. search needs) returns)

@@ -6,8 +6,7 @@ use Rattle.hpcdb.proofs.hpcdb_trace_sample.Tie as tie
 returns : tie.Need-returns
 returns c =
     let sample-at = c .before .before .sample-at in
-    let put-sample = c .put-sample in
-    rw (← sample-at .ensures) (put-sample .ensures)
+    rw (← sample-at .ensures) (c .put-sample .ensures)
 
 pub hpcdb-trace-sample-spec : {M : Type 1} → statement M
 hpcdb-trace-sample-spec = tie.close (tie.spec (λ c κs. search needs) (λ c κs. search needs) returns)

@@ -2,7 +2,7 @@
 use mathlib.Core.Path.{refl}
 use Rattle.hpcdb.specs.Value.{valueIn}
 use Rattle.block.specs.Block.{lookupWords}
-use Rattle.words.specs.Convention.{codeIn}
+use Rattle.refusal.specs.Words.{codeIn}
 use borrow.Author.Needs.{needs}
 use Rattle.hpcdb.proofs.put_value.Statement.{statement}
 use Rattle.hpcdb.proofs.put_value.Tie as tie
@@ -16,16 +16,13 @@ returns c =
 
 returns-2 : tie.Need-returns-2
 unfolding lookupWords codeIn valueIn
-returns-2 c =
-    let enum-told = c .enum-told in
-    rw (enum-told .given .1) (refl, refl)
+returns-2 c = rw (c .enum-told .given .1) (refl, refl)
 
 returns-3 : tie.Need-returns-3
 unfolding lookupWords codeIn valueIn
 returns-3 c =
     let answer2 = c .before .before .answer2 in
-    let code = c .code in
-    rw (answer2 .given .1) (code .ensures, refl)
+    rw (answer2 .given .1) (c .code .ensures, refl)
 
 pub put-value-spec : {M : Type 1} → statement M
 put-value-spec =

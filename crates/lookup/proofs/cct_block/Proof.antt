@@ -7,6 +7,7 @@ use Rattle.lookup.specs.declared.Checked.the-variants.{Refused}
 use Rattle.array.proofs.Bounds.{header-in, bounded}
 use Rattle.open.proofs.Answer.{answers, refuses, told-passed, single-list}
 use Rattle.open.specs.Format as Format
+use Rattle.open.specs.Names as Section
 use Prim.Native.Nat.{ℕ}
 use mathlib.Core.List.{List}
 use mathlib.Core.Path.{refl, ap, _∙_}
@@ -23,14 +24,12 @@ checked-at-requires c κs =
     let single-section = c .before .before .before .before .before .single-section in
     let check-cct = c .before .before .before .before .check-cct in
     let enum-told = c .before .before .enum-told in
-    let cct-shape = c .before .cct-shape in
     let opened = told-passed Format.cct _ (single-section .ensures .0) (check-cct .ensures)
     (enum-told .given .1) in (
-      rw (cct-shape .ensures) (inl refl, inr refl),
+      rw (c .before .cct-shape .ensures) (inl refl, inr refl),
       (
-        bounded Format.cct (now (args .file)) (omega arith) opened 0 (omega arith) (Format.u32 8) (Format.held (Format.u8 12)) refl
-            (omega arith) refl,
-        header-in Format.cct (now (args .file)) opened 0 (omega arith) (omega arith),
+        bounded Format.cct (now (args .file)) (omega arith) opened Section.infos (omega arith) refl,
+        header-in Format.cct (now (args .file)) opened Section.infos (omega arith),
       ),
     )
 
@@ -38,13 +37,12 @@ returns : tie.Need-returns
 unfolding cctBlock
 returns c =
     let args = c .before .before .before .before .before .before .before .before .args in
-    let checked-at = c .checked-at in
     let cct-shape = c .before .before .cct-shape in
     let single-section = c .before .before .before .before .before .before .single-section in
     let check-cct = c .before .before .before .before .before .check-cct in
     let enum-told = c .before .before .before .enum-told in
     let block : List (List ℕ) → Checked = λ ps. checkedAt (now (args .file)) cctShape ps (args .context) in
-    rw (checked-at .ensures, cct-shape .ensures)
+    rw (c .checked-at .ensures, cct-shape .ensures)
     (one-section (now (args .file)) cctShape _ (args .context) ∙ ap block (single-list (now (args .file)) (single-section .ensures .0))
     ∙ answers Format.cct (now (args .file)) (single-section .ensures .0)
     (check-cct .ensures) Refused block (enum-told .given .1))
@@ -52,11 +50,9 @@ returns c =
 returns-2 : tie.Need-returns-2
 unfolding cctBlock
 returns-2 c =
-    let args = c .before .before .before .before .before .before .args in
     let single-section = c .before .before .before .before .single-section in
     let check-cct = c .before .before .before .check-cct in
-    let check = c .before .check in
-    refuses Format.cct _ (single-section .ensures .0) (check-cct .ensures) Refused _ _ (check .given .1)
+    refuses Format.cct _ (single-section .ensures .0) (check-cct .ensures) Refused _ _ (c .before .check .given .1)
 
 pub cct-block-spec : {M : Type 1} → statement M
 cct-block-spec =

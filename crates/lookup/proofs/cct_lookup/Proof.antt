@@ -1,5 +1,5 @@
 -- By the block.
-use Rattle.lookup.proofs.Laws.{cct-valid}
+use Rattle.lookup.proofs.Laws.{cct-sound}
 use Rattle.lookup.specs.Lookup.{cctLookup, onChecked}
 use mathlib.Core.Path.{sym, _∙_}
 use denote.Ref.{now}
@@ -9,27 +9,23 @@ use Rattle.lookup.proofs.cct_lookup.Tie as tie
 
 find-requires : tie.Need-find-requires
 find-requires c κs =
-    let cct-shape = c .cct-shape in
     let args = c .before .before .before .before .before .before .args in
     let cct-block = c .before .before .before .before .cct-block in
     let checked = c .before .before .checked in
-    rw (cct-shape .ensures) (cct-valid (now (args .file)) (args .context) _ (sym (cct-block .ensures) ∙ checked .given .1))
+    rw (c .cct-shape .ensures) (cct-sound (now (args .file)) (args .context) _ (sym (cct-block .ensures) ∙ checked .given .1))
 
 returns : tie.Need-returns
 unfolding cctLookup onChecked
 returns c =
-    let find = c .find in
-    let cct-shape = c .before .cct-shape in
     let cct-block = c .before .before .before .before .before .cct-block in
     let checked = c .before .before .before .checked in
-    rw (find .ensures, cct-shape .ensures, ← cct-block .ensures, checked .given .1)
+    rw (c .find .ensures, c .before .cct-shape .ensures, ← cct-block .ensures, checked .given .1)
 
 returns-2 : tie.Need-returns-2
 unfolding cctLookup onChecked
 returns-2 c =
     let cct-block = c .before .before .before .cct-block in
-    let checked2 = c .before .checked2 in
-    rw (← cct-block .ensures, checked2 .given .1)
+    rw (← cct-block .ensures, c .before .checked2 .given .1)
 
 pub cct-lookup-spec : {M : Type 1} → statement M
 cct-lookup-spec =

@@ -10,8 +10,7 @@ unfolding checkedBlock ifPassed
 returns c =
     let block-at = c .before .before .before .block-at in
     let check = c .before .before .check in
-    let enum-told = c .enum-told in
-    rw (← block-at .ensures, ← check .ensures, enum-told .given .1)
+    rw (← block-at .ensures, ← check .ensures, c .enum-told .given .1)
 
 returns-2 : tie.Need-returns-2
 unfolding checkedBlock ifPassed

@@ -6,6 +6,7 @@ use Rattle.lookup.specs.declared.Checked.the-variants.{Refused}
 use Rattle.array.proofs.Bounds.{header-in, bounded}
 use Rattle.open.proofs.Answer.{answers, refuses, told-passed, two-pairs}
 use Rattle.open.specs.Format as Format
+use Rattle.open.specs.Names as Section
 use Prim.Native.Nat.{ℕ}
 use mathlib.Core.List.{List}
 use mathlib.Core.Path.{refl, ap, _∙_}
@@ -26,9 +27,8 @@ checked-at-requires c κs =
     let opened = told-passed Format.profile _ (profile-sections .ensures) (check-profile .ensures) (enum-told .given .1) in (
       rw (profile-shape .ensures) (inr refl, inl refl),
       (
-        bounded Format.profile (now (args .file)) (omega arith) opened 0 (omega arith) (Format.u32 8) (Format.held (Format.u8 12)) refl
-            (omega arith) refl,
-        header-in Format.profile (now (args .file)) opened 0 (omega arith) (omega arith),
+        bounded Format.profile (now (args .file)) (omega arith) opened Section.infos (omega arith) refl,
+        header-in Format.profile (now (args .file)) opened Section.infos (omega arith),
       ),
     )
 
@@ -36,13 +36,12 @@ returns : tie.Need-returns
 unfolding profileBlock
 returns c =
     let args = c .before .before .before .before .before .before .before .before .before .args in
-    let checked-at = c .checked-at in
     let profile-shape = c .before .before .before .profile-shape in
     let profile-sections = c .before .before .before .before .before .before .before .profile-sections in
     let check-profile = c .before .before .before .before .before .before .check-profile in
     let enum-told = c .before .before .before .before .enum-told in
     let block : List (List ℕ) → Checked = λ ps. checkedAt (now (args .file)) profileShape ps (args .profile) in
-    rw (checked-at .ensures, profile-shape .ensures)
+    rw (c .checked-at .ensures, profile-shape .ensures)
     (ap block (two-pairs (now (args .file)) (profile-sections .ensures))
     ∙ answers Format.profile (now (args .file)) (profile-sections .ensures) (check-profile .ensures) Refused block (enum-told .given .1))
 
@@ -51,8 +50,7 @@ unfolding profileBlock
 returns-2 c =
     let profile-sections = c .before .before .before .before .profile-sections in
     let check-profile = c .before .before .before .check-profile in
-    let check = c .before .check in
-    refuses Format.profile _ (profile-sections .ensures) (check-profile .ensures) Refused _ _ (check .given .1)
+    refuses Format.profile _ (profile-sections .ensures) (check-profile .ensures) Refused _ _ (c .before .check .given .1)
 
 pub profile-block-spec : {M : Type 1} → statement M
 profile-block-spec =

@@ -4,9 +4,7 @@ use Rattle.meta.proofs.description.Statement.{statement}
 use Rattle.meta.proofs.description.Tie as tie
 
 returns : tie.Need-returns
-returns c =
-    let description-at = c .before .before .description-at in
-    (rw (c .bytes .ensures .0, description-at .ensures), rw (c .bytes .ensures .1, description-at .ensures))
+returns c = rw (← c .before .before .description-at .ensures) (c .bytes .ensures)
 
 pub description-spec : {M : Type 1} → statement M
 description-spec = tie.close (tie.spec (λ c κs. search needs) (λ c κs. search needs) returns)

@@ -4,9 +4,7 @@ use Rattle.meta.proofs.module_path.Statement.{statement}
 use Rattle.meta.proofs.module_path.Tie as tie
 
 returns : tie.Need-returns
-returns c =
-    let module-at = c .before .before .module-at in
-    (rw (c .bytes .ensures .0, module-at .ensures), rw (c .bytes .ensures .1, module-at .ensures))
+returns c = rw (← c .before .before .module-at .ensures) (c .bytes .ensures)
 
 pub module-path-spec : {M : Type 1} → statement M
 module-path-spec = tie.close (tie.spec (λ c κs. search needs) (λ c κs. search needs) returns)

@@ -1,11 +1,10 @@
 -- By whether the file opens; then the array lies in it.
 use Rattle.open.specs.Format.{meta}
-use Rattle.open.proofs.Answer.{answers, refuses, told-passed}
-use Rattle.meta.specs.Names.{sourceAt, sourceIn}
+use Rattle.open.specs.Names as Section
+use Rattle.open.proofs.Answer.{answers, refuses}
+use Rattle.array.proofs.Bounds.{header-there, array-there}
+use Rattle.meta.specs.Names.{sourceAt}
 use Rattle.meta.specs.declared.SourceFile.the-variants.{Refused}
-use mathlib.Core.Path.{refl}
-use Rattle.open.specs.Format.{u16, u32, held}
-use Rattle.array.proofs.Bounds.{header-in, bounded}
 use native.Mathlib.Omega.{arith}
 use borrow.Author.Needs.{needs}
 use Rattle.meta.proofs.source_file.Statement.{statement}
@@ -16,39 +15,31 @@ of-specs-requires c κs =
     let meta-sections = c .before .before .before .before .before .meta-sections in
     let check-meta = c .before .before .before .check-meta in
     let enum-told = c .before .enum-told in
-    let args = c .before .before .before .before .before .before .before .args in
-    let opened = told-passed meta _ (meta-sections .ensures) (check-meta .ensures) (enum-told .given .1) in
-    header-in meta (args .file .now) opened 6 (omega arith) (omega arith)
+    header-there meta _ (meta-sections .ensures) (check-meta .ensures) (enum-told .given .1) Section.files (omega arith)
 
 source-in-requires : tie.Need-source-in-requires
 source-in-requires c κs =
-    let args = c .before .before .before .before .before .before .before .before .before .args in
     let meta-sections = c .before .before .before .before .before .before .before .meta-sections in
     let check-meta = c .before .before .before .before .before .check-meta in
     let enum-told = c .before .before .before .enum-told in
-    let of-specs = c .before .of-specs in
-    bounded meta (args .file .now) (omega arith) (told-passed meta _ (meta-sections .ensures) (check-meta .ensures) (enum-told .given .1)) 6
-    (omega arith) (u32 8) (held (u16 12)) refl (omega arith) (of-specs .ensures)
+    array-there meta _ (meta-sections .ensures) (check-meta .ensures) (enum-told .given .1) Section.files (omega arith) (omega arith)
+    (c .before .of-specs .ensures)
 
 returns : tie.Need-returns
 unfolding sourceAt
 returns c =
-    let args = c .before .before .before .before .before .before .before .before .before .before .args in
-    let of-specs = c .before .before .of-specs in
     let meta-sections = c .before .before .before .before .before .before .before .before .meta-sections in
     let check-meta = c .before .before .before .before .before .before .check-meta in
     let enum-told = c .before .before .before .before .enum-told in
-    let file = args .file .now in
-    rw (c .source-in .ensures, of-specs .ensures) (answers meta file (meta-sections .ensures) (check-meta .ensures) Refused
-    (λ ps. sourceIn file ps (args .i)) (enum-told .given .1))
+    rw (c .source-in .ensures, c .before .before .of-specs .ensures)
+    (answers meta _ (meta-sections .ensures) (check-meta .ensures) Refused _ (enum-told .given .1))
 
 returns-2 : tie.Need-returns-2
 unfolding sourceAt
 returns-2 c =
     let meta-sections = c .before .before .before .before .before .meta-sections in
     let check-meta = c .before .before .before .check-meta in
-    let check = c .before .check in
-    refuses meta _ (meta-sections .ensures) (check-meta .ensures) Refused _ _ (check .given .1)
+    refuses meta _ (meta-sections .ensures) (check-meta .ensures) Refused _ _ (c .before .check .given .1)
 
 pub source-file-spec : {M : Type 1} → statement M
 source-file-spec =

@@ -1,5 +1,5 @@
 -- By whether the path is there.
-use Rattle.meta.specs.Names.{sourceOf, copied}
+use Rattle.meta.specs.Names.{sourceOf, isCopied}
 use Rattle.text.specs.String.{onText}
 use native.Mathlib.Nat.{add-zero}
 use borrow.Author.Needs.{needs}
@@ -7,7 +7,7 @@ use Rattle.meta.proofs.source_of.Statement.{statement}
 use Rattle.meta.proofs.source_of.Tie as tie
 
 returns : tie.Need-returns
-unfolding sourceOf copied onText
+unfolding sourceOf isCopied onText
 returns c =
     let string-of = c .before .before .before .string-of in
     let place = c .before .place in

@@ -4,10 +4,7 @@ use Rattle.meta.proofs.source_path.Statement.{statement}
 use Rattle.meta.proofs.source_path.Tie as tie
 
 returns : tie.Need-returns
-returns c =
-    let source-text = c .before .before .source-text in
-    let source-file = c .before .before .before .source-file in
-    (rw (c .bytes .ensures .0, source-text .ensures, source-file .ensures), rw (c .bytes .ensures .1, source-text .ensures, source-file .ensures))
+returns c = rw (← c .before .before .before .source-file .ensures, ← c .before .before .source-text .ensures) (c .bytes .ensures)
 
 pub source-path-spec : {M : Type 1} → statement M
 source-path-spec =

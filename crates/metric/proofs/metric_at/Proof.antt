@@ -1,10 +1,8 @@
 -- By whether the file opens.
-use Rattle.metric.specs.Levels.{metricAt, metricOf, metricNested}
+use Rattle.metric.specs.Levels.{metricAt}
 use Rattle.open.specs.Format.{meta}
 use Rattle.open.proofs.Answer.{answers, refuses, told-passed}
 use Rattle.metric.specs.declared.Metric.the-variants as metric
-use lib.ListN.{getD}
-use mathlib.Core.List.{[]}
 use borrow.Author.Needs.{needs}
 use Rattle.metric.proofs.metric_at.Statement.{statement}
 use Rattle.metric.proofs.metric_at.Tie as tie
@@ -19,23 +17,18 @@ metric-nested-requires c κs =
 returns : tie.Need-returns
 unfolding metricAt
 returns c =
-    let args = c .before .before .before .before .before .before .before .before .before .before .args in
-    let metric-nested = c .before .metric-nested in
     let meta-sections = c .before .before .before .before .before .before .before .before .meta-sections in
     let check-meta = c .before .before .before .before .before .before .check-meta in
     let enum-told = c .before .before .before .before .enum-told in
-    let file = args .file .now in
-    rw (c .metric-of .ensures, metric-nested .ensures .0)
-    (answers meta file (meta-sections .ensures) (check-meta .ensures) metric.Refused
-    (λ ps. metricOf file (getD ps 2 []) (metricNested file ps (args .m))) (enum-told .given .1))
+    rw (c .metric-of .ensures, c .before .metric-nested .ensures .0)
+    (answers meta _ (meta-sections .ensures) (check-meta .ensures) metric.Refused _ (enum-told .given .1))
 
 returns-2 : tie.Need-returns-2
 unfolding metricAt
 returns-2 c =
     let meta-sections = c .before .before .before .before .before .meta-sections in
     let check-meta = c .before .before .before .check-meta in
-    let check = c .before .check in
-    refuses meta _ (meta-sections .ensures) (check-meta .ensures) metric.Refused _ _ (check .given .1)
+    refuses meta _ (meta-sections .ensures) (check-meta .ensures) metric.Refused _ _ (c .before .check .given .1)
 
 pub metric-at-spec : {M : Type 1} → statement M
 metric-at-spec =

@@ -1,11 +1,12 @@
 -- By the array's rule.
-use Rattle.metric.specs.Levels.{nestedOf, nestedIf}
+use Rattle.metric.specs.Levels.{nestedOf}
+use Rattle.refusal.specs.Check.{either}
 use borrow.Author.Needs.{needs}
 use Rattle.metric.proofs.nested_of.Statement.{statement}
 use Rattle.metric.proofs.nested_of.Tie as tie
 
 returns : tie.Need-returns
-unfolding nestedOf nestedIf
+unfolding nestedOf either
 returns c =
     let u64-at = c .before .before .before .u64-at in
     let u16-at = c .before .before .u16-at in
@@ -13,7 +14,7 @@ returns c =
     rw (← u64-at .ensures, ← u16-at .ensures, ← array-rule .ensures, c .if1 .taken)
 
 returns-2 : tie.Need-returns-2
-unfolding nestedOf nestedIf
+unfolding nestedOf either
 returns-2 c =
     let u64-at = c .before .before .before .u64-at in
     let u16-at = c .before .before .u16-at in

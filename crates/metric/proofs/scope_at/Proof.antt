@@ -1,10 +1,8 @@
 -- By whether the file opens.
-use Rattle.metric.specs.Levels.{scopeAt, scopeOf, scopeNested}
+use Rattle.metric.specs.Levels.{scopeAt}
 use Rattle.open.specs.Format.{meta}
 use Rattle.open.proofs.Answer.{answers, refuses, told-passed}
 use Rattle.metric.specs.declared.Scope.the-variants as scope
-use lib.ListN.{getD}
-use mathlib.Core.List.{[]}
 use borrow.Author.Needs.{needs}
 use Rattle.metric.proofs.scope_at.Statement.{statement}
 use Rattle.metric.proofs.scope_at.Tie as tie
@@ -19,23 +17,18 @@ scope-nested-requires c κs =
 returns : tie.Need-returns
 unfolding scopeAt
 returns c =
-    let args = c .before .before .before .before .before .before .before .before .before .before .args in
-    let scope-nested = c .before .scope-nested in
     let meta-sections = c .before .before .before .before .before .before .before .before .meta-sections in
     let check-meta = c .before .before .before .before .before .before .check-meta in
     let enum-told = c .before .before .before .before .enum-told in
-    let file = args .file .now in
-    rw (c .scope-of .ensures, scope-nested .ensures .0)
-    (answers meta file (meta-sections .ensures) (check-meta .ensures) scope.Refused
-    (λ ps. scopeOf file (getD ps 2 []) (scopeNested file ps (args .m) (args .s))) (enum-told .given .1))
+    rw (c .scope-of .ensures, c .before .scope-nested .ensures .0)
+    (answers meta _ (meta-sections .ensures) (check-meta .ensures) scope.Refused _ (enum-told .given .1))
 
 returns-2 : tie.Need-returns-2
 unfolding scopeAt
 returns-2 c =
     let meta-sections = c .before .before .before .before .before .meta-sections in
     let check-meta = c .before .before .before .check-meta in
-    let check = c .before .check in
-    refuses meta _ (meta-sections .ensures) (check-meta .ensures) scope.Refused _ _ (check .given .1)
+    refuses meta _ (meta-sections .ensures) (check-meta .ensures) scope.Refused _ _ (c .before .check .given .1)
 
 pub scope-at-spec : {M : Type 1} → statement M
 scope-at-spec =

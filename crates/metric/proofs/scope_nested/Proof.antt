@@ -1,6 +1,7 @@
 -- By the metric; its scopes lie in the section, which lies in the file.
 use Rattle.metric.specs.Levels.{onNested}
 use Rattle.metric.proofs.Inner.{nested-bounded}
+use Rattle.open.specs.Opening.{field}
 use native.Mathlib.Omega.{arith}
 use borrow.Author.Needs.{needs}
 use Rattle.metric.proofs.scope_nested.Statement.{statement}
@@ -13,7 +14,7 @@ nested-at-requires c κs =
     rw (metric .given .1) at (metric-nested .ensures .1)
 
 returns : tie.Need-returns
-unfolding onNested
+unfolding onNested field
 returns c =
     let u8-at = c .before .before .u8-at in
     let metric-nested = c .before .before .before .before .before .before .before .metric-nested in
@@ -21,8 +22,7 @@ returns c =
     let args = c .before .before .before .before .before .before .before .before .before .args in
     let pre = c .before .before .before .before .before .before .before .before .before .pre in (
       rw (c .nested-at .ensures, u8-at .ensures, ← metric-nested .ensures .0, metric .given .1),
-      nested-bounded (args .file .now) (omega arith) pre _ _
-          _ (c .nested-at .ensures),
+      nested-bounded (args .file .now) (omega arith) pre _ _ _ (c .nested-at .ensures),
     )
 
 returns-2 : tie.Need-returns-2

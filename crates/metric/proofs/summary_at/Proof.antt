@@ -1,10 +1,8 @@
 -- By whether the file opens; the scope's summaries are then bounded.
-use Rattle.metric.specs.Levels.{summaryAt, summaryOf, scopeNested}
+use Rattle.metric.specs.Levels.{summaryAt}
 use Rattle.open.specs.Format.{meta}
 use Rattle.open.proofs.Answer.{answers, refuses, told-passed}
 use Rattle.metric.specs.declared.Summary.the-variants as summary
-use lib.ListN.{getD}
-use mathlib.Core.List.{[]}
 use borrow.Author.Needs.{needs}
 use Rattle.metric.proofs.summary_at.Statement.{statement}
 use Rattle.metric.proofs.summary_at.Tie as tie
@@ -22,23 +20,18 @@ summary-of-requires c κs = c .scope-nested .ensures .1
 returns : tie.Need-returns
 unfolding summaryAt
 returns c =
-    let args = c .before .before .before .before .before .before .before .before .before .before .args in
-    let scope-nested = c .before .scope-nested in
     let meta-sections = c .before .before .before .before .before .before .before .before .meta-sections in
     let check-meta = c .before .before .before .before .before .before .check-meta in
     let enum-told = c .before .before .before .before .enum-told in
-    let file = args .file .now in
-    rw (c .summary-of .ensures, scope-nested .ensures .0)
-    (answers meta file (meta-sections .ensures) (check-meta .ensures) summary.Refused
-    (λ ps. summaryOf file (getD ps 2 []) (scopeNested file ps (args .m) (args .s)) (args .k)) (enum-told .given .1))
+    rw (c .summary-of .ensures, c .before .scope-nested .ensures .0)
+    (answers meta _ (meta-sections .ensures) (check-meta .ensures) summary.Refused _ (enum-told .given .1))
 
 returns-2 : tie.Need-returns-2
 unfolding summaryAt
 returns-2 c =
     let meta-sections = c .before .before .before .before .before .meta-sections in
     let check-meta = c .before .before .before .check-meta in
-    let check = c .before .check in
-    refuses meta _ (meta-sections .ensures) (check-meta .ensures) summary.Refused _ _ (check .given .1)
+    refuses meta _ (meta-sections .ensures) (check-meta .ensures) summary.Refused _ _ (c .before .check .given .1)
 
 pub summary-at-spec : {M : Type 1} → statement M
 summary-at-spec =

@@ -4,10 +4,7 @@ use Rattle.metric.proofs.summary_formula.Statement.{statement}
 use Rattle.metric.proofs.summary_formula.Tie as tie
 
 returns : tie.Need-returns
-returns c =
-    let summary-text = c .before .before .summary-text in
-    let summary-at = c .before .before .before .summary-at in
-    (rw (c .bytes .ensures .0, summary-text .ensures, summary-at .ensures), rw (c .bytes .ensures .1, summary-text .ensures, summary-at .ensures))
+returns c = rw (← c .before .before .before .summary-at .ensures, ← c .before .before .summary-text .ensures) (c .bytes .ensures)
 
 pub summary-formula-spec : {M : Type 1} → statement M
 summary-formula-spec =

@@ -9,10 +9,8 @@ use Rattle.outside.proofs.is_apart.Tie as tie
 returns : tie.Need-returns
 unfolding apart
 returns c =
-    let ends-by = c .before .ends-by in
-    let ends-by2 = c .ends-by2 in
     let args = c .before .before .args in
-    rw (ends-by .ensures, ends-by2 .ensures, mul-one, none-product (args .n) (args .stride))
+    rw (c .before .ends-by .ensures, c .ends-by2 .ensures, mul-one, none-product (args .n) (args .stride))
 
 pub is-apart-spec : {M : Type 1} → statement M
 is-apart-spec =

@@ -8,11 +8,9 @@ use Rattle.outside.proofs.lies.Tie as tie
 returns : tie.Need-returns
 unfolding lies apartAll
 returns c =
-    let within = c .within in
-    let last-eight = c .before .last-eight in
     let is-apart = c .before .before .before .is-apart in
     let is-apart2 = c .before .before .is-apart2 in
-    rw (within .ensures, last-eight .ensures, is-apart .ensures, is-apart2 .ensures, and-true)
+    rw (c .within .ensures, c .before .last-eight .ensures, is-apart .ensures, is-apart2 .ensures, and-true)
 
 pub lies-spec : {M : Type 1} → statement M
 lies-spec =

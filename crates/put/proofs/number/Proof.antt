@@ -3,7 +3,7 @@ use Prim.Native.Nat.{_+_, _-_, _≤_}
 use mathlib.Core.Path.{_≡_, refl, sym, ap, _∙_}
 use native.Mathlib.Omega.{arith}
 use borrow.Author.Needs.{needs}
-use lib.ListN.{length, length-set, set}
+use lib.ListN.{length, length-set}
 use Rattle.layout.specs.Bytes.{bytes}
 use Rattle.buffer.specs.Over.{over}
 use Rattle.buffer.proofs.Laws.{over-none, over-next}

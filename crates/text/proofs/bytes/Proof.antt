@@ -1,15 +1,16 @@
 -- By the answer's case.
-use Rattle.text.specs.String.{textBytes, textCode}
+use Rattle.text.specs.String.{textBytes, textWords}
+use Rattle.refusal.specs.Words.{codeIn}
 use borrow.Author.Needs.{needs}
 use Rattle.text.proofs.bytes.Statement.{statement}
 use Rattle.text.proofs.bytes.Tie as tie
 
 returns : tie.Need-returns
-unfolding textBytes textCode
+unfolding textBytes textWords codeIn
 returns c = (rw (c .before .before .text .given .1, c .part .ensures), rw (c .before .before .text .given .1))
 
 returns-2 : tie.Need-returns-2
-unfolding textBytes textCode
+unfolding textBytes textWords codeIn
 returns-2 c =
     let text2 = c .before .before .before .text2 in
     let number = c .before .number in

@@ -11,27 +11,23 @@ returns c = sym (outside _ _ _ (c .if1 .taken))
 
 returns-2 : tie.Need-returns-2
 returns-2 c =
-    let args = c .before .before .args in
-    let if1 = c .before .if1 in
-    omega (arith, count (args .file .now) (args .t2) (args .place) (if1 .left))
+    let a = c .before .before .args in
+    omega (arith, count (a .file .now) (a .t2) (a .place) (c .before .if1 .left))
 
 returns-3 : tie.Need-returns-3
 returns-3 c =
-    let args = c .before .before .before .args in
-    let if1 = c .before .before .if1 in
-    omega (arith, count (args .file .now) (args .t2) (args .place) (if1 .left))
+    let a = c .before .before .before .args in
+    omega (arith, count (a .file .now) (a .t2) (a .place) (c .before .before .if1 .left))
 
 returns-4 : tie.Need-returns-4
 returns-4 c =
-    let args = c .before .before .before .before .args in
-    let if1 = c .before .before .before .if1 in
-    omega (arith, count (args .file .now) (args .t2) (args .place) (if1 .left))
+    let a = c .before .before .before .before .args in
+    omega (arith, count (a .file .now) (a .t2) (a .place) (c .before .before .before .if1 .left))
 
 returns-5 : tie.Need-returns-5
 returns-5 c =
-    let args = c .before .before .before .before .args in
-    let if1 = c .before .before .before .if1 in
-    omega (arith, count (args .file .now) (args .t2) (args .place) (if1 .left))
+    let a = c .before .before .before .before .args in
+    omega (arith, count (a .file .now) (a .t2) (a .place) (c .before .before .before .if1 .left))
 
 pub count-from-spec : {M : Type 1} → statement M
 count-from-spec =

@@ -10,22 +10,18 @@ use Rattle.text.proofs.find.Statement.{statement}
 use Rattle.text.proofs.find.Tie as tie
 
 -- the bytes to search lie in the file
-there : (c : tie.Else1) → c .before .before .before .args .place + c .before .count-from .result ≤ length (c .before .before .before .args .file .now)
-there c =
-    let a = c .before .before .before .args in
-    reaches (a .file .now) (a .section) (a .place) (c .before .count-from .result) (c .before .count-from .ensures) (omega arith)
+there : (c : tie.Else1) → let a = c .before .before .before .args in a .place + c .before .count-from .result ≤ length (a .file .now)
+there c = reaches _ _ _ _ (c .before .count-from .ensures) (omega arith)
 
 -- the search goes over just the section's bytes
-found : (c : tie.After-until) → c .until .result ≡ untilNul (bytesFrom (c .before .before .before .before .before .args .file .now) (c .before .before .before .before .before .args .section) (c .before .before .before .before .before .args .place))
+found : (c : tie.After-until) → let a = c .before .before .before .before .before .args in
+    c .until .result ≡ untilNul (bytesFrom (a .file .now) (a .section) (a .place))
 found c =
-    let d = c .before .before .before in
-    let a = d .before .before .args in
-    c .until .ensures ∙ ap untilNul (all-taken (a .file .now) (a .section) (a .place) (d .count-from .result) (d .count-from .ensures) (omega arith))
+    let count-from = c .before .before .before .count-from in
+    c .until .ensures ∙ ap untilNul (all-taken _ _ _ _ (count-from .ensures) (omega arith))
 
 returns : tie.Need-returns
-returns c =
-    let a = c .before .before .before .args in
-    none-left (a .file .now) (a .section) (a .place) (sym (c .before .count-from .ensures) ∙ c .if1 .taken)
+returns c = none-left _ _ _ (sym (c .before .count-from .ensures) ∙ c .if1 .taken)
 
 add-to : tie.Need-add-to
 add-to c = omega (arith, there c)
@@ -35,18 +31,13 @@ part-until-end c = omega (arith, there c)
 
 returns-2 : tie.Need-returns-2
 returns-2 c =
-    let args = c .before .before .before .before .before .before .args in
-    let until = c .before .until in
     let count-from = c .before .before .before .before .count-from in
-    let a = args in
-    ends-inside (a .file .now) (a .section) (a .place) (until .result) (found (c .before)) (rw (count-from .ensures) at (c .if2 .taken))
+    ends-inside _ _ _ _ (found (c .before)) (rw (count-from .ensures) at (c .if2 .taken))
 
 returns-3 : tie.Need-returns-3
 returns-3 c =
-    let args = c .before .before .before .before .before .before .args in
     let count-from = c .before .before .before .before .count-from in
-    let a = args in
-    no-nul (a .file .now) (a .section) (a .place) (omega (arith, found (c .before), count-from .ensures))
+    no-nul _ _ _ (omega (arith, found (c .before), count-from .ensures))
 
 pub find-spec : {M : Type 1} → statement M
 find-spec =

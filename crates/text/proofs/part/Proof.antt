@@ -7,17 +7,17 @@ use Rattle.text.proofs.part.Tie as tie
 returns : tie.Need-returns
 returns c =
     let a = c .before .before .args in
-    part-none (a .file .now) (a .place) (a .length) (c .before .if1 .taken)
+    part-none (a .file .now) (a .place) (a .n) (c .before .if1 .taken)
 
 returns-2 : tie.Need-returns-2
 returns-2 c =
     let a = c .before .before .before .args in
-    part-rest (a .file .now) (a .place) (a .length) (c .before .if2 .taken)
+    part-rest (a .file .now) (a .place) (a .n) (c .before .if2 .taken)
 
 returns-3 : tie.Need-returns-3
 returns-3 c =
     let a = c .before .before .before .args in
-    part-some (a .file .now) (a .place) (a .length)
+    part-some (a .file .now) (a .place) (a .n)
 
 pub part-spec : {M : Type 1} → statement M
 part-spec =

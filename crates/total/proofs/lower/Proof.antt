@@ -1,12 +1,13 @@
 -- The step where the value is less than all: the greatest stays.
 use borrow.Author.Needs.{needs}
-use Rattle.total.specs.Totals.{choose, stepOf}
+use Rattle.refusal.specs.Check.{either}
+use Rattle.total.specs.Totals.{stepOf}
 use Rattle.total.proofs.Tallies.{good-next}
 use Rattle.total.proofs.lower.Statement.{statement}
 use Rattle.total.proofs.lower.Tie as tie
 
 returns : tie.Need-returns
-unfolding stepOf choose
+unfolding stepOf either
 returns c =
     let a = c .before .args in
     let pre = c .before .pre in

@@ -10,14 +10,12 @@ use Rattle.trace.proofs.follows.Tie as tie
 returns : tie.Need-returns
 returns c =
     let args = c .before .args in
-    let if1 = c .if1 in
-    sym (lt-leb (args .last + args .gap) (args .time) (omega (arith, if1 .taken)))
+    sym (lt-leb (args .last + args .gap) (args .time) (omega (arith, c .if1 .taken)))
 
 returns-2 : tie.Need-returns-2
 returns-2 c =
     let args = c .before .args in
-    let if1 = c .if1 in
-    leb-shift (args .time) (args .last) (args .gap) (if1 .left)
+    leb-shift (args .time) (args .last) (args .gap) (c .if1 .left)
 
 pub follows-spec : {M : Type 1} → statement M
 follows-spec = tie.close (tie.spec returns returns-2)

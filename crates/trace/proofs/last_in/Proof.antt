@@ -11,8 +11,7 @@ returns : tie.Need-returns
 unfolding lastIn samplePosition
 returns c =
     let last-until = c .before .before .last-until in
-    let enum-told = c .enum-told in
-    rw (← last-until .ensures, enum-told .given .1)
+    rw (← last-until .ensures, c .enum-told .given .1)
 
 sample-of-requires : tie.Need-sample-of-requires
 sample-of-requires c κs =
@@ -25,10 +24,9 @@ sample-of-requires c κs =
 returns-2 : tie.Need-returns-2
 unfolding lastIn samplePosition
 returns-2 c =
-    let sample-of = c .sample-of in
     let last-until = c .before .before .before .before .last-until in
     let k = c .before .before .k in
-    rw (sample-of .ensures, ← last-until .ensures, k .given .1)
+    rw (c .sample-of .ensures, ← last-until .ensures, k .given .1)
 
 pub last-in-spec : {M : Type 1} → statement M
 last-in-spec =

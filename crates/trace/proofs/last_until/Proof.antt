@@ -1,5 +1,5 @@
-use borrow.Author.Needs.{needs}
 -- What is before `low` is not later than the time, what is from `high` on is.
+use borrow.Author.Needs.{needs}
 use Rattle.trace.specs.Trace.{timeAt}
 use Prim.Native.Nat.{_+_, _-_, _/_}
 use native.Mathlib.Omega.{arith}
@@ -23,15 +23,13 @@ loop-holds c =
 
 add-middle : tie.Need-add-middle Inv-loop μ-loop
 add-middle c =
-    let loop = c .before .loop in
     let good = c .before .before .before .good in
-    omega (arith, loop .inv .hi-le, good)
+    omega (arith, c .before .loop .inv .hi-le, good)
 
 time-at-requires : tie.Need-time-at-requires Inv-loop μ-loop
 time-at-requires c κs =
     let pre = c .before .before .before .pre in
-    let loop = c .before .loop in
-    (pre .samples, omega (arith, loop .inv .hi-le))
+    (pre .samples, omega (arith, c .before .loop .inv .hi-le))
 
 add-low : tie.Need-add-low Inv-loop μ-loop
 add-low c =
@@ -39,47 +37,31 @@ add-low c =
     let good = c .before .before .before .before .before .good in
     omega (arith, loop .inv .hi-le, good)
 
-loop-less : tie.Need-loop-less Inv-loop μ-loop
-loop-less c =
-    omega arith
-
 loop-again : tie.Need-loop-again Inv-loop μ-loop
 loop-again c =
     let pre = c .before .before .before .before .before .pre in
     let loop = c .before .before .before .loop in
-    let time-at = c .before .time-at in
-    let if1 = c .if1 in
     bracket-up (pre .times) (loop .inv) (loop .low + (loop .high - loop .low) / 2) (omega arith) (omega arith)
-    (omega (arith, rw (time-at .ensures) at (if1 .taken)))
-
-loop-less-2 : tie.Need-loop-less-2 Inv-loop μ-loop
-loop-less-2 c =
-    omega arith
+    (omega (arith, rw (c .before .time-at .ensures) at (c .if1 .taken)))
 
 loop-again-2 : tie.Need-loop-again-2 Inv-loop μ-loop
 loop-again-2 c =
     let pre = c .before .before .before .before .before .pre in
     let loop = c .before .before .before .loop in
-    let time-at = c .before .time-at in
-    let if1 = c .if1 in
     bracket-down (pre .times) (loop .inv) (loop .low + (loop .high - loop .low) / 2) (omega arith) (omega arith)
-    (omega (arith, rw (time-at .ensures) at (if1 .left)))
+    (omega (arith, rw (c .before .time-at .ensures) at (c .if1 .left)))
 
 returns : tie.Need-returns Inv-loop μ-loop
 returns c =
     let args = c .before .before .before .before .args in
     let loop = c .before .before .loop in
-    let loop-test = c .before .loop-test in
-    let if2 = c .if2 in
-    sym (bracket-before (args .time) (loop .inv) (loop-test .left) (if2 .taken))
+    sym (bracket-before (args .time) (loop .inv) (c .before .loop-test .left) (c .if2 .taken))
 
 returns-2 : tie.Need-returns-2 Inv-loop μ-loop
 returns-2 c =
     let args = c .before .before .before .before .args in
     let loop = c .before .before .loop in
-    let loop-test = c .before .loop-test in
-    let if2 = c .if2 in
-    sym (bracket-last (args .time) (loop .inv) (loop-test .left) (omega (arith, if2 .left)))
+    sym (bracket-last (args .time) (loop .inv) (c .before .loop-test .left) (omega (arith, c .if2 .left)))
 
 pub last-until-spec : {M : Type 1} → statement M
 last-until-spec =
@@ -92,9 +74,9 @@ last-until-spec =
     add-middle
     time-at-requires
     add-low
-    loop-less
+    (λ c. omega arith)
     loop-again
-    loop-less-2
+    (λ c. omega arith)
     loop-again-2
     (λ c. search needs)
     returns

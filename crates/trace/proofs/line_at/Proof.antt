@@ -5,6 +5,7 @@ use Rattle.trace.specs.declared.Line.the-variants.{Refused}
 use Rattle.array.proofs.Bounds.{header-in, bounded}
 use Rattle.open.proofs.Answer.{answers, refuses, told-passed, single-list}
 use Rattle.open.specs.Format as Format
+use Rattle.open.specs.Names as Section
 use Prim.Native.Nat.{ℕ}
 use mathlib.Core.List.{List}
 use mathlib.Core.Path.{refl, ap, _∙_}
@@ -19,34 +20,29 @@ line-in-requires c κs =
     let args = c .before .before .before .before .before .before .args in
     let single-section = c .before .before .before .before .single-section in
     let check-trace = c .before .before .before .check-trace in
-    let enum-told = c .before .enum-told in
-    let opened = told-passed Format.trace _ (single-section .ensures .1) (check-trace .ensures) (enum-told .given .1) in (
-      bounded Format.trace (now (args .file)) (omega arith) opened 0 (omega arith) (Format.u32 8) (Format.held (Format.u8 12)) refl
-          (omega arith) refl,
-      header-in Format.trace (now (args .file)) opened 0 (omega arith) (omega arith),
+    let opened = told-passed Format.trace _ (single-section .ensures .1) (check-trace .ensures) (c .before .enum-told .given .1) in (
+      bounded Format.trace (now (args .file)) (omega arith) opened Section.infos (omega arith) refl,
+      header-in Format.trace (now (args .file)) opened Section.infos (omega arith),
     )
 
 returns : tie.Need-returns
 unfolding lineAt
 returns c =
     let args = c .before .before .before .before .before .before .before .args in
-    let line-in = c .line-in in
     let single-section = c .before .before .before .before .before .single-section in
     let check-trace = c .before .before .before .before .check-trace in
     let enum-told = c .before .before .enum-told in
     let line : List (List ℕ) → Line = λ ps. lineIn (now (args .file)) ps (args .i) in
-    line-in .ensures ∙ ap line (single-list (now (args .file)) (single-section .ensures .0))
+    c .line-in .ensures ∙ ap line (single-list (now (args .file)) (single-section .ensures .0))
     ∙ answers Format.trace (now (args .file)) (single-section .ensures .1)
     (check-trace .ensures) Refused line (enum-told .given .1)
 
 returns-2 : tie.Need-returns-2
 unfolding lineAt
 returns-2 c =
-    let args = c .before .before .before .before .before .before .args in
     let single-section = c .before .before .before .before .single-section in
     let check-trace = c .before .before .before .check-trace in
-    let check = c .before .check in
-    refuses Format.trace _ (single-section .ensures .1) (check-trace .ensures) Refused _ _ (check .given .1)
+    refuses Format.trace _ (single-section .ensures .1) (check-trace .ensures) Refused _ _ (c .before .check .given .1)
 
 pub line-at-spec : {M : Type 1} → statement M
 line-at-spec =

@@ -8,29 +8,26 @@ use Rattle.trace.proofs.line_in.Tie as tie
 
 nth-requires : tie.Need-nth-requires
 nth-requires c κs =
-    let of-infos = c .of-infos in
     let pre = c .before .before .pre in
-    rw (of-infos .ensures) (pre .0)
+    rw (c .of-infos .ensures) (pre .0)
 
 returns : tie.Need-returns
 unfolding lineIn onElement
 returns c =
-    let line-of = c .line-of in
     let u32-at = c .before .before .before .u32-at in
     let u64-at = c .before .before .u64-at in
     let u64-at2 = c .before .u64-at2 in
     let of-infos = c .before .before .before .before .before .before .before .before .of-infos in
     let nth = c .before .before .before .before .before .before .before .nth in
     let at = c .before .before .before .before .before .at in
-    rw (line-of .ensures, u32-at .ensures, u64-at .ensures, u64-at2 .ensures, add-zero, ← of-infos .ensures, ← nth .ensures, at .given .1)
+    rw (c .line-of .ensures, u32-at .ensures, u64-at .ensures, u64-at2 .ensures, add-zero, ← of-infos .ensures, ← nth .ensures, at .given .1)
 
 returns-2 : tie.Need-returns-2
 unfolding lineIn onElement
 returns-2 c =
     let of-infos = c .before .before .before .before .of-infos in
     let nth = c .before .before .before .nth in
-    let r = c .before .r in
-    rw (← of-infos .ensures, ← nth .ensures, r .given .1)
+    rw (← of-infos .ensures, ← nth .ensures, c .before .r .given .1)
 
 pub line-in-spec : {M : Type 1} → statement M
 line-in-spec =

@@ -11,43 +11,35 @@ use Rattle.trace.proofs.line_of.Tie as tie
 returns : tie.Need-returns
 returns c =
     let args = c .before .before .before .args in
-    let line-rule = c .before .line-rule in
-    let if1 = c .if1 in
-    range-broken (now (args .file)) _ (args .start) (args .end) (sym (line-rule .ensures) ∙ not-true _ (if1 .taken)) (args .profile)
+    range-broken (now (args .file)) _ (args .start) (args .end) (sym (c .before .line-rule .ensures) ∙ not-true _ (c .if1 .taken)) (args .profile)
 
 sub-samples : tie.Need-sub-samples
 sub-samples c =
     let args = c .before .before .before .args in
-    let line-rule = c .before .line-rule in
-    let if1 = c .if1 in
-    omega (arith, rule-forwards (now (args .file)) _ (args .start) (args .end) (sym (line-rule .ensures) ∙ not-false _ (if1 .left)))
+    omega (arith, rule-forwards (now (args .file)) _ (args .start) (args .end) (sym (c .before .line-rule .ensures) ∙ not-false _ (c .if1 .left)))
 
 times-rise-requires : tie.Need-times-rise-requires
 times-rise-requires c κs =
     let args = c .before .before .before .args in
-    let line-rule = c .before .line-rule in
-    let if1 = c .if1 in
-    rule-ends (now (args .file)) _ (args .start) (args .end) (sym (line-rule .ensures) ∙ not-false _ (if1 .left))
+    rule-ends (now (args .file)) _ (args .start) (args .end) (sym (c .before .line-rule .ensures) ∙ not-false _ (c .if1 .left))
 
 returns-2 : tie.Need-returns-2
 returns-2 c =
     let args = c .before .before .before .before .before .args in
     let line-rule = c .before .before .before .line-rule in
     let if1 = c .before .before .if1 in
-    let times-rise = c .before .times-rise in
     let if2 = c .if2 in
     order-broken (now (args .file)) _ (args .start) (args .end) (sym (line-rule .ensures) ∙ not-false _ (if1 .left)) (args .profile)
-    (sym (times-rise .ensures) ∙ not-true _ (if2 .taken))
+    (sym (c .before .times-rise .ensures) ∙ not-true _ (if2 .taken))
 
 returns-3 : tie.Need-returns-3
 returns-3 c =
     let args = c .before .before .before .before .before .args in
     let line-rule = c .before .before .before .line-rule in
     let if1 = c .before .before .if1 in
-    let times-rise = c .before .times-rise in
     let if2 = c .if2 in
     rules-kept (now (args .file)) _ (args .start) (args .end) (sym (line-rule .ensures) ∙ not-false _ (if1 .left)) (args .profile)
-    (sym (times-rise .ensures) ∙ not-false _ (if2 .left))
+    (sym (c .before .times-rise .ensures) ∙ not-false _ (if2 .left))
 
 pub line-of-spec : {M : Type 1} → statement M
 line-of-spec =

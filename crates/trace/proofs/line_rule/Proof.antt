@@ -9,8 +9,7 @@ use Rattle.trace.proofs.line_rule.Tie as tie
 returns : tie.Need-returns
 returns c =
     let args = c .before .before .args in
-    let if1 = c .if1 in
-    sym (rule-backwards (now (args .file)) _ (args .start) (args .end) (if1 .taken))
+    sym (rule-backwards (now (args .file)) _ (args .start) (args .end) (c .if1 .taken))
 
 returns-2 : tie.Need-returns-2
 returns-2 c =

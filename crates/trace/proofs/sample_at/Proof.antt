@@ -1,5 +1,5 @@
 -- By the line.
-use Rattle.trace.proofs.Lines.{line-ordered}
+use Rattle.trace.proofs.Lines.{line-sound}
 use Rattle.trace.specs.Trace.{sampleAt, onLine}
 use mathlib.Core.Path.{sym, _∙_}
 use denote.Ref.{now}
@@ -11,23 +11,20 @@ sample-in-requires : tie.Need-sample-in-requires
 sample-in-requires c κs =
     let args = c .before .before .before .before .before .args in
     let line-at = c .before .before .before .line-at in
-    let line = c .before .line in
-    line-ordered (now (args .file)) (args .i) _ _ _ (sym (line-at .ensures) ∙ line .given .1) .samples
+    line-sound (now (args .file)) (args .i) _ _ _ (sym (line-at .ensures) ∙ c .before .line .given .1) .samples
 
 returns : tie.Need-returns
 unfolding sampleAt onLine
 returns c =
-    let sample-in = c .sample-in in
     let line-at = c .before .before .before .before .line-at in
     let line = c .before .before .line in
-    rw (sample-in .ensures, ← line-at .ensures, line .given .1)
+    rw (c .sample-in .ensures, ← line-at .ensures, line .given .1)
 
 returns-2 : tie.Need-returns-2
 unfolding sampleAt onLine
 returns-2 c =
     let line-at = c .before .before .before .line-at in
-    let line2 = c .before .line2 in
-    rw (← line-at .ensures, line2 .given .1)
+    rw (← line-at .ensures, c .before .line2 .given .1)
 
 pub sample-at-spec : {M : Type 1} → statement M
 sample-at-spec =

@@ -10,16 +10,13 @@ returns : tie.Need-returns
 unfolding sampleIn rule ifPassed
 returns c =
     let args = c .before .before .args in
-    let if1 = c .if1 in
-    rw (le-ltb (args .k) (args .samples) (if1 .taken))
+    rw (le-ltb (args .k) (args .samples) (c .if1 .taken))
 
 returns-2 : tie.Need-returns-2
 unfolding sampleIn rule ifPassed
 returns-2 c =
-    let sample-of = c .sample-of in
     let args = c .before .before .before .args in
-    let if1 = c .before .if1 in
-    rw (sample-of .ensures, lt-ltb (args .k) (args .samples) (if1 .left))
+    rw (c .sample-of .ensures, lt-ltb (args .k) (args .samples) (c .before .if1 .left))
 
 pub sample-in-spec : {M : Type 1} → statement M
 sample-in-spec = tie.close (tie.spec returns (λ c κs. search needs) returns-2)

@@ -6,10 +6,7 @@ use Rattle.trace.proofs.sample_of.Tie as tie
 
 returns : tie.Need-returns
 unfolding sampleOf contextAt
-returns c =
-    let time-at = c .before .time-at in
-    let load-u32 = c .load-u32 in
-    rw (time-at .ensures, load-u32 .ensures)
+returns c = rw (c .before .time-at .ensures, c .load-u32 .ensures)
 
 pub sample-of-spec : {M : Type 1} → statement M
 sample-of-spec =

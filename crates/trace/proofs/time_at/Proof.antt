@@ -6,9 +6,7 @@ use Rattle.trace.proofs.time_at.Tie as tie
 
 returns : tie.Need-returns
 unfolding timeAt
-returns c =
-    let load-u64 = c .load-u64 in
-    load-u64 .ensures
+returns c = c .load-u64 .ensures
 
 pub time-at-spec : {M : Type 1} → statement M
 time-at-spec = tie.close (tie.spec (λ c. search needs) (λ c. search needs) (λ c κs. search needs) returns)

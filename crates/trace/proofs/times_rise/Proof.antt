@@ -41,9 +41,8 @@ returns-2 c =
     let loop = c .before .before .before .before .loop in
     let args = c .before .before .before .before .before .before .before .before .before .args in
     let time-at2 = c .before .before .time-at2 in
-    let follows = c .before .follows in
     let loop-test = c .before .before .before .loop-test in
-    let after = leb-false (loop .last + args .gap) (time-at2 .result) (sym (follows .ensures) ∙ not-true _ (c .if2 .taken)) in
+    let after = leb-false (loop .last + args .gap) (time-at2 .result) (sym (c .before .follows .ensures) ∙ not-true _ (c .if2 .taken)) in
     sym (rising-not (loop .inv) (loop-test .taken) (rw (time-at2 .ensures) at after))
 
 loop-again : tie.Need-loop-again Inv-loop μ-loop
@@ -51,9 +50,8 @@ loop-again c =
     let loop = c .before .before .before .before .loop in
     let args = c .before .before .before .before .before .before .before .before .before .args in
     let time-at2 = c .before .before .time-at2 in
-    let follows = c .before .follows in
     let loop-test = c .before .before .before .loop-test in
-    let after = leb-true (loop .last + args .gap) (time-at2 .result) (sym (follows .ensures) ∙ not-false _ (c .if2 .left)) in
+    let after = leb-true (loop .last + args .gap) (time-at2 .result) (sym (c .before .follows .ensures) ∙ not-false _ (c .if2 .left)) in
     rw (time-at2 .ensures) (rising-more (loop .inv) (loop-test .taken) (rw (time-at2 .ensures) at after))
 
 returns-3 : tie.Need-returns-3 Inv-loop μ-loop

@@ -12,23 +12,20 @@ identifier-in-requires : tie.Need-identifier-in-requires
 identifier-in-requires c κs =
     let args = c .before .before .before .before .before .args in
     let tuple-at = c .before .before .before .tuple-at in
-    let tuple = c .before .tuple in
-    tuple-bounded (now (args .file)) (omega arith) (args .profile) _ (sym (tuple-at .ensures) ∙ tuple .given .1)
+    tuple-bounded (now (args .file)) (omega arith) (args .profile) _ (sym (tuple-at .ensures) ∙ c .before .tuple .given .1)
 
 returns : tie.Need-returns
 unfolding identifierAt onTuple
 returns c =
-    let identifier-in = c .identifier-in in
     let tuple-at = c .before .before .before .before .tuple-at in
     let tuple = c .before .before .tuple in
-    rw (identifier-in .ensures, ← tuple-at .ensures, tuple .given .1)
+    rw (c .identifier-in .ensures, ← tuple-at .ensures, tuple .given .1)
 
 returns-2 : tie.Need-returns-2
 unfolding identifierAt onTuple
 returns-2 c =
     let tuple-at = c .before .before .before .tuple-at in
-    let tuple2 = c .before .tuple2 in
-    rw (← tuple-at .ensures, tuple2 .given .1)
+    rw (← tuple-at .ensures, c .before .tuple2 .given .1)
 
 pub identifier-at-spec : {M : Type 1} → statement M
 identifier-at-spec =

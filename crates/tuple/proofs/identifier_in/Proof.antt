@@ -8,17 +8,15 @@ use Rattle.tuple.proofs.identifier_in.Tie as tie
 returns : tie.Need-returns
 unfolding identifierIn onElement
 returns c =
-    let identifier-of = c .identifier-of in
     let nth = c .before .before .before .before .nth in
     let at = c .before .before .at in
-    rw (identifier-of .ensures, ← nth .ensures, at .given .1)
+    rw (c .identifier-of .ensures, ← nth .ensures, at .given .1)
 
 returns-2 : tie.Need-returns-2
 unfolding identifierIn onElement
 returns-2 c =
     let nth = c .before .before .before .nth in
-    let r = c .before .r in
-    rw (← nth .ensures, r .given .1)
+    rw (← nth .ensures, c .before .r .given .1)
 
 pub identifier-in-spec : {M : Type 1} → statement M
 identifier-in-spec =

@@ -10,9 +10,7 @@ unfolding identifierOf
 returns c =
     let u8-at = c .before .before .before .u8-at in
     let u16-at = c .before .before .u16-at in
-    let u32-at = c .before .u32-at in
-    let u64-at = c .u64-at in
-    rw (u8-at .ensures, u16-at .ensures, u32-at .ensures, u64-at .ensures, add-zero)
+    rw (u8-at .ensures, u16-at .ensures, c .before .u32-at .ensures, c .u64-at .ensures, add-zero)
 
 pub identifier-of-spec : {M : Type 1} → statement M
 identifier-of-spec =

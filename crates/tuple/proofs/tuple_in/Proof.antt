@@ -7,27 +7,23 @@ use Rattle.tuple.proofs.tuple_in.Tie as tie
 
 nth-requires : tie.Need-nth-requires
 nth-requires c κs =
-    let of-infos = c .of-infos in
     let pre = c .before .before .pre in
-    rw (of-infos .ensures) (pre .0)
+    rw (c .of-infos .ensures) (pre .0)
 
 returns : tie.Need-returns
 unfolding tupleIn onElement
 returns c =
-    let tuple-of = c .tuple-of in
-    let u64-at = c .before .u64-at in
     let of-infos = c .before .before .before .before .before .before .of-infos in
     let nth = c .before .before .before .before .before .nth in
     let at = c .before .before .before .at in
-    rw (tuple-of .ensures, u64-at .ensures, ← of-infos .ensures, ← nth .ensures, at .given .1)
+    rw (c .tuple-of .ensures, c .before .u64-at .ensures, ← of-infos .ensures, ← nth .ensures, at .given .1)
 
 returns-2 : tie.Need-returns-2
 unfolding tupleIn onElement
 returns-2 c =
     let of-infos = c .before .before .before .before .of-infos in
     let nth = c .before .before .before .nth in
-    let r = c .before .r in
-    rw (← of-infos .ensures, ← nth .ensures, r .given .1)
+    rw (← of-infos .ensures, ← nth .ensures, c .before .r .given .1)
 
 pub tuple-in-spec : {M : Type 1} → statement M
 tuple-in-spec =

@@ -1,8 +1,6 @@
 -- By the rule.
-use Rattle.tuple.proofs.Fits.{rule-broken, rule-kept, rule-told, fits}
+use Rattle.tuple.proofs.Fits.{rule-kept, told-kept, told-broken, fits}
 use Rattle.tuple.specs.Tuple.{identifiers}
-use borrow.Author.Tests.{not-true, not-false}
-use mathlib.Core.Path.{sym, _∙_}
 use native.Mathlib.Nat.{add-zero}
 use native.Mathlib.Omega.{arith}
 use denote.Ref.{now}
@@ -17,35 +15,29 @@ returns c =
     let u16-at = c .before .before .before .u16-at in
     let multiple = c .before .multiple in
     let in-section = c .before .before .in-section in
-    let if1 = c .if1 in
-    let told = rule-told (now (args .file)) (getD (args .t2) 0 0) (getD (args .t2) 1 0) (args .at) (u16-at .ensures) (multiple .ensures)
-    (in-section .ensures) in
-    rule-broken (now (args .file)) (getD (args .t2) 0 0) (getD (args .t2) 1 0) (args .at) (sym told ∙ not-true _ (if1 .taken))
+    told-broken (now (args .file)) (getD (args .t2) 0 0) (getD (args .t2) 1 0) (args .at) (u16-at .ensures) (multiple .ensures) (in-section .ensures)
+    (c .if1 .taken)
 
 add-t10 : tie.Need-add-t10
 add-t10 c =
     let args = c .before .before .before .before .before .args in
     let pre = c .before .before .before .before .before .pre in
-    let u16-at = c .before .before .before .u16-at in
-    let multiple = c .before .multiple in
-    let in-section = c .before .before .in-section in
-    let if1 = c .if1 in
     let good = c .before .before .before .before .before .good in
-    let told = rule-told (now (args .file)) (getD (args .t2) 0 0) (getD (args .t2) 1 0) (args .at) (u16-at .ensures) (multiple .ensures)
-    (in-section .ensures) in
-    omega (arith, fits (now (args .file)) (getD (args .t2) 0 0) (getD (args .t2) 1 0) (args .at) pre (sym told ∙ not-false _ (if1 .left)), good)
+    let u16-at = c .before .before .before .u16-at in
+    let in-section = c .before .before .in-section in
+    let kept = told-kept (now (args .file)) (getD (args .t2) 0 0) (getD (args .t2) 1 0) (args .at) (u16-at .ensures) (c .before .multiple .ensures)
+    (in-section .ensures) (c .if1 .left) in
+    omega (arith, fits (now (args .file)) (getD (args .t2) 0 0) (getD (args .t2) 1 0) (args .at) pre kept, good)
 
 returns-2 : tie.Need-returns-2
 unfolding identifiers
 returns-2 c =
-    let u16-at = c .before .before .before .u16-at in
     let args = c .before .before .before .before .before .args in
-    let multiple = c .before .multiple in
+    let u16-at = c .before .before .before .u16-at in
     let in-section = c .before .before .in-section in
-    let if1 = c .if1 in
-    let told = rule-told (now (args .file)) (getD (args .t2) 0 0) (getD (args .t2) 1 0) (args .at) (u16-at .ensures) (multiple .ensures)
-    (in-section .ensures) in
-    rw (u16-at .ensures, add-zero) (rule-kept (now (args .file)) (getD (args .t2) 0 0) (getD (args .t2) 1 0) (args .at) (sym told ∙ not-false _ (if1 .left)))
+    let kept = told-kept (now (args .file)) (getD (args .t2) 0 0) (getD (args .t2) 1 0) (args .at) (u16-at .ensures) (c .before .multiple .ensures)
+    (in-section .ensures) (c .if1 .left) in
+    rw (u16-at .ensures, add-zero) (rule-kept (now (args .file)) (getD (args .t2) 0 0) (getD (args .t2) 1 0) (args .at) kept)
 
 pub tuple-of-spec : {M : Type 1} → statement M
 tuple-of-spec =

@@ -12,14 +12,18 @@ use lib.ListN.{length, length-set}
 use borrow.Author.Needs.{needs}
 use borrow.Author.Tests.{not-true, not-false}
 use Rattle.open.specs.Opening.{field}
-use Rattle.context.specs.Context.{childrenPlace, childrenBytes, targetsIn}
+use Rattle.context.specs.Context.{childrenPlace, childrenBytes}
+use Rattle.context.specs.Sound.{targetsIn}
 use Rattle.context.specs.Entry.{Entry}
 use Rattle.context.proofs.Laws.{ends, readable}
 use Rattle.traversal.specs.declared.Walked.{Walked}
 use Rattle.traversal.specs.declared.Walked.the-variants.{Complete}
+use Rattle.traversal.specs.Traversal.{depthLimit}
+use Rattle.traversal.specs.Walk.{Slices, slices}
 use Rattle.traversal.proofs.Walked.{the-type as walked-type}
-use Rattle.walk.specs.State.{Lent, slices, Holds}
-use Rattle.walk.proofs.Going.{takes-some, Going, going-start, going-10, going-end, going-on, going-stop}
+use Rattle.traversal.proofs.Steps.{takes-some}
+use Rattle.walk.specs.State.{Holds}
+use Rattle.walk.proofs.Going.{Going, going-start, going-10, going-end, going-on, going-stop}
 use Rattle.walk.proofs.Visits.{id-read, place-read, bytes-read, does-refused, does-cut, does-leaf, does-deep, safe}
 use Rattle.walk.proofs.Measure.{falls-in, falls-down}
 use borrow.Fn.Kinds.{In}
@@ -44,10 +48,10 @@ not-complete : (w : Walked) → OneOf (1 ∷ 2 ∷ []) (tagOf walked-type w) →
 not-complete w h k e = ⊎-elim (λ g. omega (arith, ap (tagOf walked-type) e, g)) (λ g. omega (arith, ap (tagOf walked-type) e, g)) h
 
 abbrev μ-array : Measures 5 array-kinds.ps ℕ
-μ-array κs a = (201 - a .1 .1 .0) * 2 ^ 64 + (a .1 .1 .1 .1 .0 - a .1 .1 .1 .0) + 1
+μ-array κs a = (suc depthLimit - a .1 .1 .0) * 2 ^ 64 + (a .1 .1 .1 .1 .0 - a .1 .1 .1 .0) + 1
 
 abbrev μ-visit : Measures 5 visit-kinds.ps ℕ
-μ-visit κs a = (201 - a .1 .1 .0) * 2 ^ 64 + (a .1 .1 .1 .1 .0 - a .1 .1 .1 .0)
+μ-visit κs a = (suc depthLimit - a .1 .1 .0) * 2 ^ 64 + (a .1 .1 .1 .1 .0 - a .1 .1 .1 .0)
 
 abbrev array-at : ℕ → In 5 array-kinds.ps
 array-at t = and 5 array-kinds.ps (is 5 array-kinds.ps μ-array t) array.Pre
@@ -79,14 +83,14 @@ visit-calls t = (
 )
 
 abbrev array-Inv-loop : array-lts.InvT-loop
-array-Inv-loop file t depth at stop listing₀ table₀ records₀ count p₀ n₀ listing table records p n =
+array-Inv-loop file targets depth at stop listing₀ table₀ records₀ count p₀ n₀ listing table records p n =
     (at ≤ p) × (length listing ≡ length listing₀) × (length table ≡ length table₀) × (length records ≡ length records₀)
-    × ((was : Lent) (l : List Entry) (parent : ℕ) (ups : List ℕ) → suc (length ups) ≡ depth
-    → Holds was l (slices listing₀ table₀ records₀) count → Going file (targetsIn t) depth at stop was l parent ups (slices listing table records) p
+    × ((was : Slices) (l : List Entry) (parent : ℕ) (ups : List ℕ) → suc (length ups) ≡ depth
+    → Holds was l (slices listing₀ table₀ records₀) count → Going file (targetsIn targets) depth at stop was l parent ups (slices listing table records) p
     n)
 
 abbrev array-μ-loop : array-lts.MeasureT-loop
-array-μ-loop file t depth at stop listing₀ table₀ records₀ count p₀ n₀ listing table records p n =
+array-μ-loop file targets depth at stop listing₀ table₀ records₀ count p₀ n₀ listing table records p n =
     stop - p
 
 array-loop-holds : (t : ℕ) → array-lts.Need-loop-holds (array-calls t) (array-at t) array.Post array-Inv-loop array-μ-loop
@@ -97,7 +101,7 @@ array-loop-holds t c =
       refl,
       refl,
       refl,
-      λ was l parent ups d h. going-start file (targetsIn (now (args .t))) (args .depth) (args .at) (args .stop) was l parent ups _ _ h,
+      λ was l parent ups d h. going-start file (targetsIn (now (args .targets))) (args .depth) (args .at) (args .stop) was l parent ups _ _ h,
     )
 
 array-context-rule-requires : (t : ℕ) → array-lts.Need-context-rule-requires (array-calls t) (array-at t) array.Post array-Inv-loop array-μ-loop
@@ -131,8 +135,8 @@ array-returns t c =
     let file = now (args .file) in
     let so = slices (loop .listing) (loop .table) (loop .records) in
     let broken = sym (context-rule .ensures) ∙ not-true (context-rule .result) (if1 .taken) in
-    λ was l parent ups d h. going-10 file (targetsIn (now (args .t))) (args .depth) (args .at) (args .stop) was l parent ups so (loop .p) (loop .n)
-    (loop-test .taken) broken (loop .inv .4 was l parent ups d h)
+    λ was l parent ups d h. going-10 file (targetsIn (now (args .targets))) (args .depth) (args .at) (args .stop) was l parent ups so (loop .p) (loop .n)
+    (loop-test .taken) (loop .inv .4 was l parent ups d h) broken
 
 array-visit-requires : (t : ℕ) → array-lts.Need-visit-requires (array-calls t) (array-at t) array.Post array-Inv-loop array-μ-loop
 array-visit-requires t c κs =
@@ -142,7 +146,7 @@ array-visit-requires t c κs =
     let loop = c .before .before .before .before .before .before .loop in
     let pre = c .before .before .before .before .before .before .before .before .before .before .before .pre in
     let fine = sym (context-rule .ensures) ∙ not-false (context-rule .result) (if1 .left) in
-    let falls = falls-in ((201 - args .depth) * 2 ^ 64) (args .at) (loop .p) (args .stop) t (pre .0) (loop .inv .0) in
+    let falls = falls-in ((suc depthLimit - args .depth) * 2 ^ 64) (args .at) (loop .p) (args .stop) t (pre .0) (loop .inv .0) in
     (falls, (omega (arith, loop .inv .0, pre .1), fine, omega (arith, pre .1), omega (arith, pre .1), omega (arith, pre .1)))
 
 array-same-length-4 : (t : ℕ) → array-lts.Need-same-length-4 (array-calls t) (array-at t) array.Post array-Inv-loop array-μ-loop
@@ -174,9 +178,8 @@ array-returns-2 t c =
     let file = now (args .file) in
     let so = slices (loop .listing) (loop .table) (loop .records) in
     let after = slices (visit .last .1 .1 .1 .1 .1 .0) (visit .last .1 .1 .1 .1 .1 .1 .0) (visit .last .1 .1 .1 .1 .1 .1 .1 .0) in
-    λ was l parent ups d h. going-stop file (targetsIn (now (args .t))) (args .depth) (args .at) (args .stop) was l parent ups d so (loop .p)
-    (loop .n) (visit .result) after
-    (loop-test .taken) (loop .inv .4 was l parent ups d h) (visit .ensures) (not-complete (visit .result) (match .keys2))
+    λ was l parent ups d h. going-stop file (targetsIn (now (args .targets))) (args .depth) (args .at) (args .stop) was l parent ups so (loop .p)
+    (loop .n) (loop-test .taken) (loop .inv .4 was l parent ups d h) d (visit .result) after (visit .ensures) (not-complete (visit .result) (match .keys2))
 
 array-extent-requires : (t : ℕ) → array-lts.Need-extent-requires (array-calls t) (array-at t) array.Post array-Inv-loop array-μ-loop
 array-extent-requires t c κs =
@@ -242,9 +245,8 @@ array-loop-again t c =
       visit .kept .1 .1 .1 .1 .1 .0 ∙ loop .inv .1,
       visit .kept .1 .1 .1 .1 .1 .1 .0 ∙ loop .inv .2,
       visit .kept .1 .1 .1 .1 .1 .1 .1 .0 ∙ loop .inv .3,
-      λ was l parent ups d h. going-on file (targetsIn (now (args .t))) (args .depth) (args .at) (args .stop) was l parent ups d so (loop .p)
-          (loop .n) (visit .result) after
-          (loop-test .taken) (loop .inv .4 was l parent ups d h) (visit .ensures) (extent .result) (walked .given .0 .0) (walked .given .1)
+      λ was l parent ups d h. going-on file (targetsIn (now (args .targets))) (args .depth) (args .at) (args .stop) was l parent ups so (loop .p)
+          (loop .n) (loop-test .taken) (loop .inv .4 was l parent ups d h) d (visit .result) after (visit .ensures) (extent .result) (walked .given .0 .0) (walked .given .1)
           (extent .ensures),
     )
 
@@ -270,7 +272,7 @@ array-returns-3 t c =
     let loop-test = c .loop-test in
     let file = now (args .file) in
     let so = slices (loop .listing) (loop .table) (loop .records) in
-    λ was l parent ups d h. going-end file (targetsIn (now (args .t))) (args .depth) (args .at) (args .stop) was l parent ups so (loop .p) (loop .n)
+    λ was l parent ups d h. going-end file (targetsIn (now (args .targets))) (args .depth) (args .at) (args .stop) was l parent ups so (loop .p) (loop .n)
     (loop-test .left) (loop .inv .4 was l parent ups d h)
 
 visit-visit-check-requires : (t : ℕ) → visit-lts.Need-visit-check-requires (visit-calls t) (visit-at t) visit.Post
@@ -286,7 +288,7 @@ visit-returns t c =
     let visit-check = c .before .before .before .visit-check in
     let check = c .before .check in
     let file = now (args .file) in
-    let t0 = targetsIn (now (args .t)) in
+    let t0 = targetsIn (now (args .targets)) in
     let s = slices (now (args .listing)) (now (args .table)) (now (args .records)) in
     does-refused file t0 (args .depth) (args .p) (args .stop) (args .n) s (pre .1 .1)
     (visit-check .result) (check .given .0 .0) (visit-check .ensures) (check .given .1)
@@ -299,7 +301,7 @@ visit-returns-2 t c =
     let enum-told = c .before .enum-told in
     let if1 = c .if1 in
     let file = now (args .file) in
-    let t0 = targetsIn (now (args .t)) in
+    let t0 = targetsIn (now (args .targets)) in
     let s = slices (now (args .listing)) (now (args .table)) (now (args .records)) in
     does-cut file t0 (args .depth) (args .p) (args .stop) (args .n) s (pre .1 .1)
     (visit-check .result) (visit-check .ensures) (enum-told .given .1) (if1 .taken)
@@ -332,7 +334,7 @@ visit-slice-write-table t c =
     let enum-told = c .before .before .enum-told in
     let load-u32 = c .load-u32 in
     let file = now (args .file) in
-    let t0 = targetsIn (now (args .t)) in
+    let t0 = targetsIn (now (args .targets)) in
     let s = slices (now (args .listing)) (now (args .table)) (now (args .records)) in
     let kept = safe file t0 (args .depth) (args .p) (args .stop) (args .n) s (pre .1 .1)
     (visit-check .result) (visit-check .ensures) (enum-told .given .1) in
@@ -373,7 +375,7 @@ visit-returns-3 t c =
     let if1 = c .before .before .before .before .before .before .before .if1 in
     let if2 = c .if2 in
     let file = now (args .file) in
-    let t0 = targetsIn (now (args .t)) in
+    let t0 = targetsIn (now (args .targets)) in
     let s = slices (now (args .listing)) (now (args .table)) (now (args .records)) in
     let id = id-read file (args .p) (load-u32 .result) (load-u32 .ensures) in
     let size = bytes-read file (args .p) (load-u64 .result) (load-u64 .ensures) in
@@ -416,7 +418,7 @@ visit-add-end t c =
     let good = c .before .before .before .before .before .before .before .before .before .before .before .before .before .before .before .before
     .before .good in
     let file = now (args .file) in
-    let t0 = targetsIn (now (args .t)) in
+    let t0 = targetsIn (now (args .targets)) in
     let s = slices (now (args .listing)) (now (args .table)) (now (args .records)) in
     let kept = safe file t0 (args .depth) (args .p) (args .stop) (args .n) s (pre .1 .1)
     (visit-check .result) (visit-check .ensures) (enum-told .given .1) in
@@ -451,7 +453,7 @@ visit-array-requires t c κs =
     let load-u642 = c .before .before .before .load-u642 in
     let if2 = c .before .before .before .before .if2 in
     let file = now (args .file) in
-    let t0 = targetsIn (now (args .t)) in
+    let t0 = targetsIn (now (args .targets)) in
     let s = slices (now (args .listing)) (now (args .table)) (now (args .records)) in
     let kept = safe file t0 (args .depth) (args .p) (args .stop) (args .n) s (pre .1 .1)
     (visit-check .result) (visit-check .ensures) (enum-told .given .1) in
@@ -507,7 +509,7 @@ visit-returns-4 t c =
     let if1 = c .before .before .before .before .before .before .before .before .before .before .before .before .before .before .before .before
     .before .before .if1 in
     let file = now (args .file) in
-    let t0 = targetsIn (now (args .t)) in
+    let t0 = targetsIn (now (args .targets)) in
     let s = slices (now (args .listing)) (now (args .table)) (now (args .records)) in
     let id = id-read file (args .p) (load-u32 .result) (load-u32 .ensures) in
     let size = bytes-read file (args .p) (load-u64 .result) (load-u64 .ensures) in

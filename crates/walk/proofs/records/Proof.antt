@@ -1,4 +1,5 @@
 -- By whether the file opens.
+use Rattle.traversal.specs.Walk.{slices}
 use Rattle.walk.proofs.Roots.{untouched}
 use Rattle.open.proofs.Answer.{told, told-passed}
 use Rattle.open.specs.Format.{meta}
@@ -10,9 +11,9 @@ use Rattle.walk.proofs.records.Tie as tie
 
 walk-in-requires : tie.Need-walk-in-requires
 walk-in-requires c κs =
-    let meta-sections = c .before .before .before .before .before .before .before .meta-sections in
-    let check-meta = c .before .before .before .before .before .check-meta in
-    let enum-told = c .before .before .before .enum-told in
+    let meta-sections = c .before .before .before .before .before .before .before .before .meta-sections in
+    let check-meta = c .before .before .before .before .before .before .check-meta in
+    let enum-told = c .before .before .before .before .enum-told in
     told-passed meta _ (meta-sections .ensures) (check-meta .ensures) (enum-told .given .1)
 
 returns-2 : tie.Need-returns-2
@@ -21,7 +22,7 @@ returns-2 c =
     let check = c .before .check in
     let meta-sections = c .before .before .before .before .before .meta-sections in
     let check-meta = c .before .before .before .check-meta in
-    untouched (now (args .file)) (now (args .listing)) (now (args .table)) (now (args .records)) (check .given .0 .0)
+    untouched (now (args .file)) (slices (now (args .listing)) (now (args .table)) (now (args .records))) (check .given .0 .0)
     (sym (told meta _ (meta-sections .ensures) (check-meta .ensures)) ∙ check .given .1)
 
 pub records-spec : {M : Type 1} → statement M

@@ -6,10 +6,7 @@ use Rattle.words.proofs.code.Statement.{statement}
 use Rattle.words.proofs.code.Tie as tie
 
 cast-result : tie.Need-cast-result
-cast-result c =
-    let number = c .number in
-    let args = c .before .args in
-    omega (arith, number .ensures, small (args .r))
+cast-result c = omega (arith, c .number .ensures, small (c .before .args .r))
 
 pub code-spec : {M : Type 1} → statement M
 code-spec = tie.close (tie.spec (λ c κs. search needs) cast-result (λ c. search needs))

@@ -7,7 +7,7 @@ use Rattle.block.specs.declared.Shape.{Shape}
 use Rattle.block.specs.declared.Block.{Block}
 use Rattle.block.specs.Block.{startOf, endOf, outerIds, innerIds}
 
-pub record WellFormed (file : List ℕ) (h : Shape) (b : Block) : Type 0 where
+pub record OrderKept (file : List ℕ) (h : Shape) (b : Block) : Type 0 where
   pub first-start : startOf file h b 0 ≡ 0
   pub starts-increase : Sorted (startOf file h b) (b .count)
   pub starts-below : (i : ℕ) → i < b .count → startOf file h b i < b .total

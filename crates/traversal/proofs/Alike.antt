@@ -1,0 +1,65 @@
+-- Two traversals of the same contexts side by side, with other room: what relates their outcomes where nothing is left to traverse, and
+-- is kept by what follows and by a visit, relates them in the end. P: of the contexts so far.
+use Prim.Native.Nat.{ℕ, zero, suc, _+_, _-_}
+use mathlib.Core.Bool.{Bool, true, false}
+use mathlib.Core.List.{List, [], _∷_, _++_}
+use lib.Dec.{ltb}
+use Rattle.open.specs.Opening.{field}
+use Rattle.context.specs.Context.{Targets, childrenPlace, childrenBytes, extent}
+use Rattle.context.specs.Entry.{Entry, entryAt}
+use Rattle.traversal.specs.Traversal.{Lengths, ask, Outcome, on, Parameters, parameters, visitCheck, enter, visit, bind, turn, siblings, level}
+use Rattle.traversal.proofs.Grows.{Grows, grows-siblings, grows-level}
+
+module _ (file : List ℕ) (t : Targets) (n n' : Lengths) (free free' : List Entry → Bool) where
+  abbrev pub one : Parameters
+  one = parameters (ask file n) t free
+
+  abbrev pub other : Parameters
+  other = parameters (ask file n') t free'
+
+  pub record Alike (P : List Entry → Type 0) (R : Outcome → Outcome → Type 0) : Type 0 where
+    pub stay : (l : List Entry) → P l → R (on l) (on l)
+    pub follow : (o o' : Outcome) (K K' : List Entry → Outcome) → Grows K → Grows K' → R o o' → ((l : List Entry) → P l → R (K l) (K' l))
+        → R (bind o K) (bind o' K')
+    pub entered : (path : List ℕ) (p stop : ℕ) (l : List Entry) (e : Entry) (K K' : List Entry → Outcome) → Grows K → Grows K' → P l
+        → ((m : List Entry) → P m → R (K m) (K' m))
+        → R (enter (visitCheck one path p stop l) (free l) K l e) (enter (visitCheck other path p stop l) (free' l) K' l e)
+
+  module _ (P : List Entry → Type 0) (R : Outcome → Outcome → Type 0) (a : Alike P R) where
+    alike-turn : (b : Bool) (H H' K K' : List Entry → Outcome) (l : List Entry) → Grows K → Grows K' → P l → R (H l) (H' l)
+        → ((m : List Entry) → P m → R (K m) (K' m)) → R (turn b H K l) (turn b H' K' l)
+    unfolding turn
+    alike-turn true H H' K K' l g g' h r k = a .follow (H l) (H' l) K K' g g' r k
+    alike-turn false H H' K K' l g g' h r k = a .stay l h
+
+    module _ (levels : ℕ) (below : (parent : ℕ) (path : List ℕ) (from stop : ℕ) (l : List Entry) → P l
+        → R (level one levels parent path from stop l) (level other levels parent path from stop l)) where
+      alike-visit : (parent : ℕ) (path : List ℕ) (p stop : ℕ) (l : List Entry) → P l
+          → R (visit one (level one levels) parent path p stop l) (visit other (level other levels) parent path p stop l)
+      unfolding visit
+      alike-visit parent path p stop l h =
+          let from = field file p childrenPlace in
+          let to = field file p childrenPlace + field file p childrenBytes in
+          a .entered path p stop l (entryAt file parent path p) (level one levels p path from to) (level other levels p path from to)
+          (grows-level one levels p path from to) (grows-level other levels p path from to) h (below p path from to)
+
+      alike-siblings : (parent : ℕ) (ups : List ℕ) (bound i p stop : ℕ) (l : List Entry) → P l
+          → R (siblings one (level one levels) parent ups bound i p stop l) (siblings other (level other levels) parent ups bound i p stop l)
+      unfolding siblings
+      alike-siblings parent ups zero i p stop l h = a .stay l h
+      alike-siblings parent ups (suc bound) i p stop l h =
+          alike-turn (ltb p stop) (visit one (level one levels) parent (ups ++ (i ∷ [])) p stop)
+          (visit other (level other levels) parent (ups ++ (i ∷ [])) p stop)
+          (λ m. siblings one (level one levels) parent ups bound (suc i) (p + extent file p) stop m)
+          (λ m. siblings other (level other levels) parent ups bound (suc i) (p + extent file p) stop m) l
+          (grows-siblings one levels parent ups bound (suc i) (p + extent file p) stop)
+          (grows-siblings other levels parent ups bound (suc i) (p + extent file p) stop) h
+          (alike-visit parent (ups ++ (i ∷ [])) p stop l h)
+          (alike-siblings parent ups bound (suc i) (p + extent file p) stop)
+
+    pub alike-level : (levels parent : ℕ) (path : List ℕ) (from stop : ℕ) (l : List Entry) → P l
+        → R (level one levels parent path from stop l) (level other levels parent path from stop l)
+    unfolding level
+    alike-level zero parent path from stop l h = a .stay l h
+    alike-level (suc levels) parent path from stop l h =
+        alike-siblings levels (alike-level levels) parent path (stop - from) 0 from stop l h

@@ -1,0 +1,94 @@
+-- Demand 3, "one claim about any two such walks": of any one walk, and of any two of the same bytes. The trail is `traversal`.
+use Prim.Native.Nat.{ℕ, _≤_, _<_, min}
+use mathlib.Core.List.{List, _∷_, _++_, map}
+use mathlib.Core.Logic.{_↔_}
+use mathlib.Core.Path.{_≡_}
+use lib.ListN.{length, getD, take, drop}
+use Rattle.refusal.specs.declared.Refusal.{Refusal}
+use Rattle.refusal.specs.declared.Refusal.the-variants as No
+use Rattle.refusal.specs.declared.Check.the-variants as Check
+use Rattle.open.specs.Format.{meta}
+use Rattle.open.specs.Opening.{opening}
+use Rattle.context.specs.Entry.{Entry}
+use Rattle.traversal.specs.declared.Walked.{Walked}
+use Rattle.traversal.specs.declared.Walked.the-variants.{Complete, Truncated, Refused}
+use Rattle.traversal.specs.Traversal.{listOf, traversal}
+use Rattle.traversal.specs.Walk.{walkedOf, numberListed, placeOf, Slices, askWith, Leaves, itself}
+
+-- a walk of a file as its caller sees it: what was lent, the answer, what stands there afterwards; as the contracts promise it
+pub record Call (file : List ℕ) : Type 0 where
+  pub was : Slices
+  pub answer : Walked
+  pub now : Slices
+  pub leaves : Leaves itself file was answer now
+
+module _ {file : List ℕ} (c : Call file) where
+  abbrev pub number : ℕ
+  number = numberListed (c .answer)
+
+  -- its list: that many words from the listing's start
+  abbrev pub list : List ℕ
+  list = take number (c .now .listing)
+
+  -- the contexts on the trail, and those of them that are listed
+  abbrev pub trail : List Entry
+  trail = listOf (traversal (askWith file (c .was)))
+
+  abbrev pub listed : List Entry
+  listed = take number trail
+
+-- ---- of one walk
+
+-- x is in a list
+abbrev pub In : {A : Type 0} → A → List A → Type 0
+In {A = A} x l = (a : List A) × (b : List A) × (l ≡ a ++ (x ∷ b))
+
+pub record OneWalk {file : List ℕ} (c : Call file) : Type 0 where
+  -- "Its number listed is the smaller of two counts, the contexts on the trail and the words of the listing."
+  pub smaller : number c ≡ min (length (trail c)) (length (c .was .listing))
+  -- "a walk lists the trail's contexts from the first on, as far as its listing has words"
+  pub from-first : list c ≡ map placeOf (listed c)
+  -- "words beyond are untouched"
+  pub beyond : drop (number c) (c .now .listing) ≡ drop (number c) (c .was .listing)
+  -- "It says cut exactly when the trail has more contexts than the listing has words"
+  pub cut : (c .answer ≡ Truncated (number c)) ↔ (length (c .was .listing) < length (trail c))
+  -- "otherwise it gives the trail's end"
+  pub end : length (trail c) ≤ length (c .was .listing) → c .answer ≡ walkedOf (traversal (askWith file (c .was)))
+  -- "The table is 0 except that slot ctxId of each listed context holds its place."
+  pub slot : opening meta file ≡ Check.Passed → (e : Entry) → In e (listed c) → getD (c .now .table) (e .ctxId) 0 ≡ e .place
+  pub no-slot : opening meta file ≡ Check.Passed → (i : ℕ) → ((e : Entry) → In e (listed c) → e .ctxId ≡ i → ⊥) → getD (c .now .table) i 0 ≡ 0
+  pub slots : length (c .now .table) ≡ length (c .was .table)
+  -- "If opening refuses, 0 are listed and neither slice changes."
+  pub refused : (r : Refusal) → opening meta file ≡ Check.Refused r
+      → (c .answer ≡ Refused r 0) × (c .now .listing ≡ c .was .listing) × (c .now .table ≡ c .was .table)
+
+-- ---- of two
+
+-- refusals that more room may change: "a missing table slot"
+abbrev pub WantsRoom : Refusal → Type 0
+WantsRoom r = r ≡ No.Slot
+
+-- "ended whole, or was refused for anything but a missing table slot"
+abbrev pub Final : Walked → Type 0
+Final (Complete n) = Unit
+Final (Truncated n) = ⊥
+Final (Refused r n) = WantsRoom r → ⊥
+
+-- a list begins with another
+abbrev pub Begins : {A : Type 0} → List A → List A → Type 0
+Begins {A = A} a b = (c : List A) × (b ≡ a ++ c)
+
+pub record TwoWalks {file : List ℕ} (old new : Call file) : Type 0 where
+  -- "the old list is the beginning of the new one"
+  pub begins : Begins (list old) (list new)
+  -- "the new one has the same list and the same end"
+  pub same-list : Final (old .answer) → list new ≡ list old
+  pub same-end : Final (old .answer) → new .answer ≡ old .answer
+
+-- ---- of any
+
+pub record Demand3 : Type 0 where
+  pub one : (file : List ℕ) (c : Call file) → OneWalk c
+  -- "with a listing and a table each at least as long, whatever they held"
+  pub two : (file : List ℕ) (old new : Call file) → length (old .was .listing) ≤ length (new .was .listing)
+      → length (old .was .table) ≤ length (new .was .table) → TwoWalks old new
