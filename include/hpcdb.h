@@ -2,12 +2,17 @@
  *
  * A file is lent as a pointer and a length. Its bytes may be any bytes, and the numbers beside it any numbers: nothing needs to be checked
  * before a call, every call ends, and no memory is touched but what this page says. No function allocates, and none keeps anything
- * between calls, so that calls from several threads at once are fine if their lent memory is not shared.
+ * between calls.
  *
  * What a caller must keep to:
  *   - a pointer leads to at least as many bytes or words as the length beside it says, words aligned as uint64_t is;
  *   - `out` leads to as many words as its declaration has;
- *   - what is lent to be written (out, listing, table, records, answers) overlaps nothing else that is lent.
+ *   - what is lent to be written (out, listing, table, records, answers) overlaps nothing else that is lent, and no other thread reads or
+ *     writes it during the call; files and pairs, which are only read, may be shared by any number of calls;
+ *   - the file's bytes do not change during a call. A file that is mapped (mmap) may be changed or cut by another process: then what is
+ *     read may be part old and part new, or the process is stopped by a signal. Read it into memory where that can happen;
+ *   - the floating-point environment is the default one: round to nearest even, subnormal numbers kept. Under another one the totals of
+ *     hpcdb_cct_totals may be others; no other function computes with floating-point numbers.
  * A pointer beside the length 0 may be null: nothing is read or written through it.
  *
  * Every function returns a code. HPCDB_OK: the answer stands in `out`. Any other: `out` is as it was (but for the two walks, which always
@@ -18,6 +23,13 @@
 
 #include <stddef.h>
 #include <stdint.h>
+
+/* The version of the library, which is not that of the format. The second number rises with a change of a declaration here, or of what a
+ * code is given for. */
+#define HPCDB_VERSION_MAJOR 0
+#define HPCDB_VERSION_MINOR 2
+#define HPCDB_VERSION_PATCH 0
+#define HPCDB_LIBRARY_VERSION "0.2.0"
 
 #ifdef __cplusplus
 extern "C" {
@@ -34,7 +46,8 @@ enum hpcdb_code {
     HPCDB_STRIDE = 6,      /* a stride is too small, or not a multiple of 8 */
     HPCDB_ARRAY = 7,       /* an array, block, trace line or tuple breaks its range rule */
     HPCDB_STRING = 8,      /* a string outside its section, or without NUL before the section's end */
-    HPCDB_LINK = 9,        /* a link that leads to no element */
+    HPCDB_LINK = 9,        /* a link that leads to no element; a function whose name, module and file are all 0; a context's link that is
+                            * present and 0 */
     HPCDB_CONTEXT = 10,    /* a context that does not fit, or has too few flex words */
     HPCDB_ORDER = 11,      /* a start or order rule is broken */
     HPCDB_DEEP = 12,       /* a context at depth 201; roots have depth 1 */
@@ -43,19 +56,44 @@ enum hpcdb_code {
     HPCDB_INDEX = 15,      /* a position that is not below its count */
     HPCDB_NOT_FINITE = 16, /* infinity or NaN among the values of a total */
     HPCDB_ROOM = 17,       /* fewer than 8 lent bytes for a value, or too few answers for the pairs */
-    HPCDB_ABSENT = 100,    /* all is sound, and there is no such thing */
+    HPCDB_ABSENT = 100,    /* the file opens, the asked block or line is sound, and there is no such thing in it; no other block, line or
+                            * tuple of the file was looked at */
     HPCDB_CUT = 101        /* a walk listed as many contexts as there was room for, and there are more */
 };
 
-/* Every function may return 1 to 7, by which opening refuses the file. What else it may return stands beside it. */
+/* Every function may return 1 to 7, by which opening refuses the file. What else it may return stands beside it.
+ *
+ * What a call costs: each one opens the file, which takes the same time for any file (tens of nanoseconds). Names, counts and tuples cost
+ * that and the length of their strings. A lookup or a total checks the whole block of its profile or context, a sample its whole line:
+ * time in proportion to the values or samples in it. So many values of one block are asked by one hpcdb_*_lookup_many, which checks the
+ * block once. A walk visits each context once. */
 
 /* ---- meta.db */
 
-/* out: place and size of each section, in header order: General, IdNames, Metrics, Context, Strings, Modules, Files, Functions. The place
- * of a section of size 0 is 0. */
+/* The sections of a meta.db, in header order. */
+enum hpcdb_meta_section {
+    HPCDB_META_GENERAL,
+    HPCDB_META_ID_NAMES,
+    HPCDB_META_METRICS,
+    HPCDB_META_CONTEXT,
+    HPCDB_META_STRINGS,
+    HPCDB_META_MODULES,
+    HPCDB_META_FILES,
+    HPCDB_META_FUNCTIONS
+};
+
+/* out: of section s the place, out[2 s], and the size, out[2 s + 1]. The place of a section of size 0 is 0. */
 uint32_t hpcdb_meta_open(const uint8_t *file, size_t file_length, uint64_t out[16]);
 
-/* out: how many identifier kinds, metrics, modules, files and functions there are. */
+/* out: how many there are of each. */
+enum hpcdb_count {
+    HPCDB_COUNT_ID_NAMES,
+    HPCDB_COUNT_METRICS,
+    HPCDB_COUNT_MODULES,
+    HPCDB_COUNT_FILES,
+    HPCDB_COUNT_FUNCTIONS,
+    HPCDB_COUNT_WORDS
+};
 uint32_t hpcdb_meta_counts(const uint8_t *file, size_t file_length, uint64_t out[5]);
 
 /* out: place and length. STRING. */
@@ -65,23 +103,58 @@ uint32_t hpcdb_meta_description(const uint8_t *file, size_t file_length, uint64_
 /* The name of an identifier kind. out: place and length. INDEX, STRING. */
 uint32_t hpcdb_meta_id_name(const uint8_t *file, size_t file_length, uint64_t kind, uint64_t out[2]);
 
-/* Metric i. out: place and length of its name, the number of its scopes. INDEX, ARRAY, STRING. */
+/* Metric i. INDEX, ARRAY, STRING. */
+enum hpcdb_metric {
+    HPCDB_METRIC_NAME, /* its place */
+    HPCDB_METRIC_NAME_LENGTH,
+    HPCDB_METRIC_SCOPES, /* how many there are */
+    HPCDB_METRIC_WORDS
+};
 uint32_t hpcdb_meta_metric(const uint8_t *file, size_t file_length, uint64_t i, uint64_t out[3]);
 
-/* Scope j of metric i. out: place and length of its name, the number of its summaries, propMetricId. INDEX, ARRAY, STRING. */
+/* Scope j of metric i. INDEX, ARRAY, STRING. */
+enum hpcdb_scope {
+    HPCDB_SCOPE_NAME,
+    HPCDB_SCOPE_NAME_LENGTH,
+    HPCDB_SCOPE_SUMMARIES, /* how many there are */
+    HPCDB_SCOPE_PROP_METRIC_ID,
+    HPCDB_SCOPE_WORDS
+};
 uint32_t hpcdb_meta_scope(const uint8_t *file, size_t file_length, uint64_t i, uint64_t j, uint64_t out[4]);
 
-/* Summary k of scope j of metric i. out: place and length of its formula, combine, statMetricId. INDEX, ARRAY, STRING. */
+/* Summary k of scope j of metric i. INDEX, ARRAY, STRING. */
+enum hpcdb_summary {
+    HPCDB_SUMMARY_FORMULA,
+    HPCDB_SUMMARY_FORMULA_LENGTH,
+    HPCDB_SUMMARY_COMBINE, /* as stored, whatever it is */
+    HPCDB_SUMMARY_STAT_METRIC_ID,
+    HPCDB_SUMMARY_WORDS
+};
 uint32_t hpcdb_meta_summary(const uint8_t *file, size_t file_length, uint64_t i, uint64_t j, uint64_t k, uint64_t out[4]);
 
 /* Load module i. out: place and length of its path. INDEX, STRING. */
 uint32_t hpcdb_meta_module(const uint8_t *file, size_t file_length, uint64_t i, uint64_t out[2]);
 
-/* Source file i. out: place and length of its path, 1 if it was copied into the database and else 0. INDEX, STRING. */
+/* Source file i. INDEX, STRING. */
+enum hpcdb_file {
+    HPCDB_FILE_PATH,
+    HPCDB_FILE_PATH_LENGTH,
+    HPCDB_FILE_COPIED, /* 1 if it was copied into the database, and else 0 */
+    HPCDB_FILE_WORDS
+};
 uint32_t hpcdb_meta_file(const uint8_t *file, size_t file_length, uint64_t i, uint64_t out[3]);
 
-/* Function i. out: 0 if it has a name and 1 if not; place and length of the name (0 and 0 if it has none); place of its module or 0;
- * offset; place of its source file or 0; line. INDEX, LINK, STRING. */
+/* Function i. What is shown for a function without a name is the caller's own. INDEX, LINK, STRING. */
+enum hpcdb_function {
+    HPCDB_FUNCTION_NO_NAME, /* 1 if it has no name, and else 0 */
+    HPCDB_FUNCTION_NAME,    /* place and length; 0 and 0 if it has none */
+    HPCDB_FUNCTION_NAME_LENGTH,
+    HPCDB_FUNCTION_MODULE, /* place of its module, or 0 */
+    HPCDB_FUNCTION_OFFSET,
+    HPCDB_FUNCTION_FILE, /* place of its source file, or 0 */
+    HPCDB_FUNCTION_LINE,
+    HPCDB_FUNCTION_WORDS
+};
 uint32_t hpcdb_meta_function(const uint8_t *file, size_t file_length, uint64_t i, uint64_t out[7]);
 
 /* The contexts in preorder. The first words of the listing receive the places of the contexts; the table is 0 but for slot ctxId of each
@@ -89,7 +162,19 @@ uint32_t hpcdb_meta_function(const uint8_t *file, size_t file_length, uint64_t i
  *   OK       all contexts are listed;
  *   CUT      n is the listing's length, and there are more contexts;
  *   CONTEXT, LINK, ARRAY, DEEP, SLOT, TWICE   the context after the n listed is refused.
- * Words of the listing behind the first n are untouched. If opening refuses, n is 0, and listing and table are untouched. */
+ * Words of the listing behind the first n are untouched. If opening refuses, n is 0, and listing and table are untouched. ARRAY with n
+ * of 0 is opening's or that of the first root: hpcdb_meta_open tells which (it gives ARRAY only for opening's), or the table, which is
+ * cleared past opening.
+ *
+ * How much room: a listing of size / 24 words, with the size of the Context section (out[2 HPCDB_META_CONTEXT + 1] of hpcdb_meta_open), is
+ * enough for every file whose arrays of contexts do not overlap; where they do, CUT says so. A table needs one slot more than the greatest
+ * ctxId; SLOT says that it has too few. What was listed stays the beginning of what is listed with more room:
+ *   while ((code = hpcdb_meta_walk(file, file_length, listing, n, table, m, out)) == HPCDB_CUT || code == HPCDB_SLOT) {
+ *       if (code == HPCDB_CUT) listing = realloc(listing, (n *= 2) * 8); else table = realloc(table, (m *= 2) * 8);
+ *       if (!listing || !table) ..;
+ *   }
+ * (with n and m above 0 at first; a ctxId has 32 bits, so that a damaged file may ask for 2^32 slots). The stack holds at most 201 arrays
+ * and 201 contexts in each other: with a chain of 201 contexts 58,320 bytes were measured. */
 uint32_t hpcdb_meta_walk(const uint8_t *file, size_t file_length, uint64_t *listing, size_t listing_length, uint64_t *table,
                          size_t table_length, uint64_t out[1]);
 
@@ -116,16 +201,27 @@ uint32_t hpcdb_meta_records(const uint8_t *file, size_t file_length, uint64_t *l
 
 /* ---- profile.db */
 
+/* out: place and size of the sections: profiles, out[0] and out[1], and identifier tuples, out[2] and out[3]. */
+uint32_t hpcdb_profile_sections(const uint8_t *file, size_t file_length, uint64_t out[4]);
+
 /* out: how many profiles there are. */
 uint32_t hpcdb_profile_open(const uint8_t *file, size_t file_length, uint64_t out[1]);
 
 /* The identifier tuple of a profile. out: how many identifications it has. INDEX, ARRAY. */
 uint32_t hpcdb_profile_tuple(const uint8_t *file, size_t file_length, uint64_t profile, uint64_t out[1]);
 
-/* Identification k of it. out: kind, flags (all 16 bits; bit 0 is isPhysical), logicalId, physicalId. INDEX, ARRAY. */
+/* Identification k of it. INDEX, ARRAY. */
+enum hpcdb_identifier {
+    HPCDB_IDENTIFIER_KIND,
+    HPCDB_IDENTIFIER_FLAGS, /* all 16 bits; bit 0 is isPhysical */
+    HPCDB_IDENTIFIER_LOGICAL,
+    HPCDB_IDENTIFIER_PHYSICAL,
+    HPCDB_IDENTIFIER_WORDS
+};
 uint32_t hpcdb_profile_identifier(const uint8_t *file, size_t file_length, uint64_t profile, uint64_t k, uint64_t out[4]);
 
-/* The value of a metric in a context of a profile. OK: its 64 bits stand little-endian in out[0] to out[7]. No byte behind the eighth is
+/* The value of a metric in a context of a profile. (Each call checks the profile's whole block: for many values see
+ * hpcdb_profile_lookup_many.) OK: its 64 bits stand little-endian in out[0] to out[7]. No byte behind the eighth is
  * ever touched. ROOM, which comes before all else; INDEX for the profile, ARRAY, ORDER, ABSENT. */
 uint32_t hpcdb_profile_lookup(const uint8_t *file, size_t file_length, uint64_t profile, uint64_t context, uint64_t metric,
                               uint8_t *out, size_t out_length);
@@ -139,6 +235,9 @@ uint32_t hpcdb_profile_lookup_many(const uint8_t *file, size_t file_length, uint
 
 /* ---- cct.db */
 
+/* out: place and size of the section. */
+uint32_t hpcdb_cct_sections(const uint8_t *file, size_t file_length, uint64_t out[2]);
+
 /* out: how many contexts there are. */
 uint32_t hpcdb_cct_open(const uint8_t *file, size_t file_length, uint64_t out[1]);
 
@@ -150,11 +249,22 @@ uint32_t hpcdb_cct_lookup(const uint8_t *file, size_t file_length, uint64_t prof
 uint32_t hpcdb_cct_lookup_many(const uint8_t *file, size_t file_length, uint64_t context, const uint64_t *pairs, size_t pairs_length,
                                uint64_t *answers, size_t answers_length);
 
-/* Over the values of a metric in a context. out: how many there are; profile and bits of the first smallest; profile and bits of the first
- * greatest; bits of the sum, taken in stored order. INDEX for the context, ARRAY, ORDER, NOT_FINITE, ABSENT. */
+/* Over the values of a metric in a context. INDEX for the context, ARRAY, ORDER, NOT_FINITE, ABSENT. */
+enum hpcdb_totals {
+    HPCDB_TOTALS_COUNT,    /* how many values there are */
+    HPCDB_TOTALS_LEAST_OF, /* the profile of the first smallest, and its bits */
+    HPCDB_TOTALS_LEAST,
+    HPCDB_TOTALS_GREATEST_OF, /* the same of the first greatest */
+    HPCDB_TOTALS_GREATEST,
+    HPCDB_TOTALS_SUM, /* bits of the sum, taken in stored order */
+    HPCDB_TOTALS_WORDS
+};
 uint32_t hpcdb_cct_totals(const uint8_t *file, size_t file_length, uint64_t context, uint64_t metric, uint64_t out[6]);
 
 /* ---- trace.db */
+
+/* out: place and size of the section. */
+uint32_t hpcdb_trace_sections(const uint8_t *file, size_t file_length, uint64_t out[2]);
 
 /* out: how many lines there are. */
 uint32_t hpcdb_trace_open(const uint8_t *file, size_t file_length, uint64_t out[1]);
@@ -165,7 +275,13 @@ uint32_t hpcdb_trace_line(const uint8_t *file, size_t file_length, uint64_t i, u
 /* Sample k of line i. out: timestamp, ctxId. INDEX, ARRAY, ORDER. */
 uint32_t hpcdb_trace_sample(const uint8_t *file, size_t file_length, uint64_t i, uint64_t k, uint64_t out[2]);
 
-/* The last sample of line i that is not later than a time. out: its position, timestamp, ctxId. INDEX, ARRAY, ORDER, ABSENT. */
+/* The last sample of line i that is not later than a time. INDEX, ARRAY, ORDER, ABSENT. */
+enum hpcdb_sample {
+    HPCDB_SAMPLE_POSITION,
+    HPCDB_SAMPLE_TIME,
+    HPCDB_SAMPLE_CTX_ID,
+    HPCDB_SAMPLE_WORDS
+};
 uint32_t hpcdb_trace_at(const uint8_t *file, size_t file_length, uint64_t i, uint64_t time, uint64_t out[3]);
 
 #ifdef __cplusplus

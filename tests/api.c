@@ -137,6 +137,7 @@ static void values(void)
     for (int i = 0; i < 6; i++)
         expect("an answer of it", answers[i], want_of_context[i]);
     WORDS("contexts", hpcdb_cct_open(file, length, out), 1, 4);
+    WORDS("the section of cct.db", hpcdb_cct_sections(file, length, out), 2, 32, 176);
     WORDS("totals", hpcdb_cct_totals(file, length, 1, 5, out), 6, 2, 1, 0x4000000000000000, 4, 0x4008000000000000, 0x4014000000000000);
     CODE("no totals", hpcdb_cct_totals(file, length, 1, 7, out), 6, HPCDB_ABSENT);
 }
@@ -145,11 +146,14 @@ static void tuples_and_lines(void)
 {
     load("crates/record_cases/data/p-tuples.db");
     WORDS("profiles", hpcdb_profile_open(file, length, out), 1, 6);
+    WORDS("the sections of profile.db", hpcdb_profile_sections(file, length, out), 4, 4944, 256, 48, 4896);
+    CODE("the sections of a cut file", hpcdb_profile_sections(file, length - 1, out), 4, HPCDB_FOOTER);
     WORDS("a tuple", hpcdb_profile_tuple(file, length, 3, out), 1, 300);
     WORDS("an identification", hpcdb_profile_identifier(file, length, 0, 1, out), 4, 255, 65535, 4294967295, UINT64_MAX);
     CODE("no such identification", hpcdb_profile_identifier(file, length, 1, 0, out), 4, HPCDB_INDEX);
     load("crates/record_cases/data/t-times.db");
     WORDS("lines", hpcdb_trace_open(file, length, out), 1, 4);
+    WORDS("the section of trace.db", hpcdb_trace_sections(file, length, out), 2, 88, 112);
     WORDS("a line", hpcdb_trace_line(file, length, 0, out), 2, 100, 2);
     WORDS("a sample", hpcdb_trace_sample(file, length, 0, 1, out), 2, 20, 6);
     CODE("too early", hpcdb_trace_at(file, length, 0, 9, out), 3, HPCDB_ABSENT);
@@ -175,6 +179,9 @@ static void nothing(void)
     CODE("profiles", hpcdb_profile_open(NULL, 0, out), 1, HPCDB_SHORT);
     CODE("contexts", hpcdb_cct_open(NULL, 0, out), 1, HPCDB_SHORT);
     CODE("lines", hpcdb_trace_open(NULL, 0, out), 1, HPCDB_SHORT);
+    CODE("sections of profile.db", hpcdb_profile_sections(NULL, 0, out), 4, HPCDB_SHORT);
+    CODE("sections of cct.db", hpcdb_cct_sections(NULL, 0, out), 2, HPCDB_SHORT);
+    CODE("sections of trace.db", hpcdb_trace_sections(NULL, 0, out), 2, HPCDB_SHORT);
     CODE("tuple", hpcdb_profile_tuple(NULL, 0, 0, out), 1, HPCDB_SHORT);
     CODE("identification", hpcdb_profile_identifier(NULL, 0, 0, 0, out), 4, HPCDB_SHORT);
     CODE("totals", hpcdb_cct_totals(NULL, 0, 0, 0, out), 6, HPCDB_SHORT);

@@ -19,7 +19,7 @@ use Rattle.outside.specs.Outside.{apart, apartAll, lies}
 use Rattle.block.specs.Block.{blockAt, idAt, wordAt, rangeRule, startOf, endOf, partOf, partAt, orderRule, blockCheck, valueAt, inPart, indexOf, lookupIn, lookupWords}
 use Rattle.lookup.specs.Lookup.{checkedBlock, checkedAt, onChecked, profileBlock, profileLookup}
 use Rattle.cases.specs.W.{parts, w, built, magic, common}
-use Rattle.cases.specs.B.{three, five, bParts, b}
+use Rattle.cases.specs.B.{f64, three, five, bParts, b}
 use Rattle.cases.specs.Flex.{flexParts, flexFile, aModule, aFile, aFunction}
 
 -- a walk's answer in words: 0 whole, 101 cut, or the refusal's number; then the number listed
@@ -65,5 +65,5 @@ pub cases : _≡_ {A = List (List ℕ)}
     ∷ (11 ∷ [])
     ∷ (11 ∷ [])
     ∷ [])
-unfolding parts w built join fields bytes magic common flexParts flexFile number starts stands rule first ifPassed placeFor pairAt pairsFrom pairs sectionRule strideRule arrayRule contextsRule field numberAt strideRules contentRule headerRule frontRules inOrder sectionCheck headerCheck openingWith opening onOpened linkedBelow linked arrayOf bit oneMore present before words extent flexAt contextRule linkRule linksRule childrenRule targetsOf entryAt seen slotCheck visitCheck enter visit bind turn siblings level fromRoots traversal either truncate walkOf walkedOf walkedWords bParts b elementAt onElement every floor rises position blockAt idAt wordAt apart apartAll lies rangeRule startOf endOf partOf partAt orderRule blockCheck valueAt inPart indexOf lookupIn lookupWords checkedBlock checkedAt onChecked profileBlock profileLookup
+unfolding parts w built join fields bytes magic common flexParts flexFile number starts stands rule first ifPassed placeFor pairAt pairsFrom pairs sectionRule strideRule arrayRule contextsRule field numberAt strideRules contentRule headerRule frontRules inOrder sectionCheck headerCheck openingWith opening onOpened linkedBelow linked arrayOf bit oneMore present before words extent flexAt contextRule linkRule linksRule childrenRule targetsOf entryAt seen slotCheck visitCheck enter visit bind turn siblings level fromRoots traversal either truncate walkOf walkedOf walkedWords f64 bParts b elementAt onElement every floor rises position blockAt idAt wordAt apart apartAll lies rangeRule startOf endOf partOf partAt orderRule blockCheck valueAt inPart indexOf lookupIn lookupWords checkedBlock checkedAt onChecked profileBlock profileLookup
 cases = refl

@@ -1,21 +1,27 @@
 -- Block B of document 01 in a profile.db of one profile, with the starts of its two sub-arrays.
 use Prim.Native.Nat.{ℕ}
 use mathlib.Core.List.{List, [], _∷_, _++_}
+use lib.IntN.{pos}
+use lib.Ieee.{binary64, ofInt, toBits}
 use Rattle.layout.specs.Bytes.{ascii, bytes, _is_, fields}
 use Rattle.cases.specs.W.{entry, padding, built}
 
--- the bits of 2.0, 3.0 and 5.0
+-- the bits of a whole number as an f64
+unfoldable pub f64 : ℕ → ℕ
+unfolding toBits ofInt
+f64 n = toBits binary64 (ofInt binary64 (pos n))
+
 abbrev pub two : ℕ
-two = 4611686018427387904
+two = f64 2
 
 abbrev pub three : ℕ
-three = 4613937818241073152
+three = f64 3
 
 abbrev pub five : ℕ
-five = 4617315517961601024
+five = f64 5
 
 unfoldable pub bParts : (start next : ℕ) → List (ℕ × List ℕ)
-unfolding fields bytes
+unfolding fields bytes f64
 bParts start next =
     (0, ascii "HPCTOOLKITprof" ++ fields (1 is 4 ∷ 1 is 0 ∷ []))
     ∷ (16, entry 56 48)
@@ -32,5 +38,5 @@ bParts start next =
     ∷ []
 
 unfoldable pub b : (start next : ℕ) → List ℕ
-unfolding bParts built
+unfolding bParts built f64
 b start next = built (bParts start next)

@@ -10,10 +10,12 @@ use Rattle.refusal.specs.Words.{codeIn}
 use Rattle.refusal.specs.declared.Check.{Check}
 use Rattle.refusal.specs.declared.Check.the-variants.{Passed, Refused}
 use Rattle.open.specs.Format.{meta}
+use Rattle.open.specs.Format as Format
 use Rattle.open.specs.Opening.{opening, pairAt, pairsFrom, pairs, placeIn, sizeIn, onOpened}
 use Rattle.meta.specs.Names.{counts}
 use Rattle.words.specs.Convention.{wordsIn, flat, countsWords}
-use Rattle.words.proofs.Laws.{small, positive, refused}
+use Rattle.refusal.proofs.Numbers.{small, positive}
+use Rattle.words.proofs.Laws.{refused}
 use Rattle.block.specs.Block.{lookupWords}
 use Rattle.block.specs.declared.Lookup.{Lookup}
 use Rattle.hpcdb.specs.Value.{valueIn, valueCode, valueBytes}
@@ -41,6 +43,15 @@ module _ (file : List ℕ) where
       ∷ placeIn ps 4 ∷ sizeIn ps 4 ∷ placeIn ps 5 ∷ sizeIn ps 5 ∷ placeIn ps 6 ∷ sizeIn ps 6 ∷ placeIn ps 7 ∷ sizeIn ps 7 ∷ [] ≡ flat ps
   unfolding pairs pairsFrom pairAt flat
   sections-flat ps e = rw e
+
+  pub two-flat : (ps : List (List ℕ)) → ps ≡ pairs Format.profile file → placeIn ps 0 ∷ sizeIn ps 0 ∷ placeIn ps 1 ∷ sizeIn ps 1 ∷ [] ≡ flat ps
+  unfolding pairs pairsFrom pairAt flat
+  two-flat ps e = rw e
+
+  pub one-flat : (magic footer : List ℕ) (least : ℕ) (ps : List (List ℕ)) → ps ≡ pairs (Format.single magic footer least) file
+      → placeIn ps 0 ∷ sizeIn ps 0 ∷ [] ≡ flat ps
+  unfolding pairs pairsFrom pairAt flat
+  one-flat magic footer least ps e = rw e
 
   -- the counts, by the number
   counts-by : (c : Check) → opening meta file ≡ c → {n : ℕ} → n ≡ codeOf c → (n ≡ 0 → countsWords file ≡ 0 ∷ counts file)

@@ -5,7 +5,7 @@ ghost use mathlib.Core.Path.{_≡_};
 ghost use Prim.Native.Nat.{_≤_};
 ghost use lib.ListN.{length};
 ghost use Rattle.refusal.specs.Check.{codeOf};
-ghost use Rattle.refusal.specs.Words.{codeIn, valuesIn};
+ghost use Rattle.refusal.specs.Words.{codeIn};
 ghost use Rattle.open.specs.Format as Format;
 ghost use Rattle.text.specs.String.{textWords};
 ghost use Rattle.meta.specs.Names.{titleAt, descriptionAt, kindAt, moduleAt, sourceAt, sourceWords};
@@ -28,6 +28,8 @@ use open::FILES;
 use open::FUNCTIONS;
 use open::GENERAL;
 use open::ID_NAMES;
+use open::ID_TUPLES;
+use open::INFOS;
 use open::METRICS;
 use open::MODULES;
 use open::STRINGS;
@@ -38,8 +40,8 @@ use refusal::Check;
 // Place and size of each section, in header order.
 #[no_mangle]
 pub extern "C" fn hpcdb_meta_open(file: &[u8], out: &mut [u64; 16]) -> u32
-    ensures { λ r. ⌜ r ≡ codeIn (sectionsWords (now (file .entry))) ⌝ }
-    ensures { λ _. ⌜ now (out .exit) ≡ wordsIn (now (out .entry)) (sectionsWords (now (file .entry))) ⌝ }
+    ensures { λ r. ⌜ r ≡ codeIn (sectionsWords Format.meta (now (file .entry))) ⌝ }
+    ensures { λ _. ⌜ now (out .exit) ≡ wordsIn (now (out .entry)) (sectionsWords Format.meta (now (file .entry))) ⌝ }
 {
     let s = open::meta_sections(file);
     let check = open::check_meta(file, &s);
@@ -218,6 +220,55 @@ pub extern "C" fn hpcdb_trace_open(file: &[u8], out: &mut [u64; 1]) -> u32
     ensures { λ _. ⌜ now (out .exit) ≡ wordsIn (now (out .entry)) (countWords (countOf Format.trace (now (file .entry)))) ⌝ }
 {
     words::put_count(count::lines(file), out)
+}
+
+// Place and size of each section.
+#[no_mangle]
+pub extern "C" fn hpcdb_profile_sections(file: &[u8], out: &mut [u64; 4]) -> u32
+    ensures { λ r. ⌜ r ≡ codeIn (sectionsWords Format.profile (now (file .entry))) ⌝ }
+    ensures { λ _. ⌜ now (out .exit) ≡ wordsIn (now (out .entry)) (sectionsWords Format.profile (now (file .entry))) ⌝ }
+{
+    let s = open::profile_sections(file);
+    let check = open::check_profile(file, s);
+    match check {
+        Check::Passed => {
+            *out = [s[INFOS][0], s[INFOS][1], s[ID_TUPLES][0], s[ID_TUPLES][1]];
+            0
+        }
+        Check::Refused(r) => words::code(r),
+    }
+}
+
+#[no_mangle]
+pub extern "C" fn hpcdb_cct_sections(file: &[u8], out: &mut [u64; 2]) -> u32
+    ensures { λ r. ⌜ r ≡ codeIn (sectionsWords Format.cct (now (file .entry))) ⌝ }
+    ensures { λ _. ⌜ now (out .exit) ≡ wordsIn (now (out .entry)) (sectionsWords Format.cct (now (file .entry))) ⌝ }
+{
+    let s = open::single_section(file);
+    let check = open::check_cct(file, s);
+    match check {
+        Check::Passed => {
+            *out = [s[INFOS][0], s[INFOS][1]];
+            0
+        }
+        Check::Refused(r) => words::code(r),
+    }
+}
+
+#[no_mangle]
+pub extern "C" fn hpcdb_trace_sections(file: &[u8], out: &mut [u64; 2]) -> u32
+    ensures { λ r. ⌜ r ≡ codeIn (sectionsWords Format.trace (now (file .entry))) ⌝ }
+    ensures { λ _. ⌜ now (out .exit) ≡ wordsIn (now (out .entry)) (sectionsWords Format.trace (now (file .entry))) ⌝ }
+{
+    let s = open::single_section(file);
+    let check = open::check_trace(file, s);
+    match check {
+        Check::Passed => {
+            *out = [s[INFOS][0], s[INFOS][1]];
+            0
+        }
+        Check::Refused(r) => words::code(r),
+    }
 }
 
 // How many identifications a profile's tuple has.

@@ -16,11 +16,11 @@ use Rattle.layout.specs.Stands.{starts, stands}
 use Rattle.layout.proofs.Laws.{length-bytes, read}
 use Rattle.layout.proofs.Prefix.{stands-iff}
 
-abbrev Octets : List ℕ → Type 0
+abbrev pub Octets : List ℕ → Type 0
 Octets s = (i : ℕ) → getD s i 0 < 256
 
 -- the bytes of the number that stands at a place are those that stand there
-bytes-number : (s : List ℕ) → Octets s → (w at : ℕ) → at + w ≤ length s → bytes w (number w s at) ≡ take w (drop at s)
+pub bytes-number : (s : List ℕ) → Octets s → (w at : ℕ) → at + w ≤ length s → bytes w (number w s at) ≡ take w (drop at s)
 unfolding bytes
 bytes-number s octets zero at h = refl
 bytes-number s octets (suc w) at h =

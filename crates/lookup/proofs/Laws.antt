@@ -4,30 +4,25 @@ use mathlib.Core.Bool.{Bool, true, false}
 use mathlib.Core.List.{List, [], _∷_}
 use mathlib.Core.Logic.{inl, inr}
 use mathlib.Core.Path.{_≡_, refl, sym, ap, _∙_}
-use native.Mathlib.Omega.{arith}
 use lib.Dec.{ltb}
 use Rattle.refusal.specs.declared.Refusal.{Refusal}
 use Rattle.refusal.specs.declared.Refusal.the-variants as No
-use Rattle.refusal.specs.declared.Check.{Check}
-use Rattle.refusal.specs.declared.Check.the-variants as Check
-use Rattle.refusal.specs.Check.{either, ifPassed}
+use Rattle.refusal.specs.Check.{either}
 use Rattle.open.specs.Format as Format
-use Rattle.open.specs.Names as Section
-use Rattle.open.specs.Opening.{opening, pairs, placeIn, onOpened}
+use Rattle.open.specs.Opening.{pairs}
 use Rattle.array.specs.declared.Array.{Array}
 use Rattle.array.specs.declared.Element.{Element}
 use Rattle.array.specs.declared.Element.the-variants as Element
-use Rattle.array.specs.Element.{elementAt, onElement}
-use Rattle.array.specs.Stored.{arrayOf}
+use Rattle.array.specs.Element.{elementAt}
 use Rattle.block.specs.declared.Shape.{Shape}
 use Rattle.block.specs.declared.Block.{Block}
 use Rattle.outside.specs.Outside.{apart, apartAll, lies}
-use Rattle.block.specs.Block.{profileShape, cctShape, blockAt, rangeRule, blockCheck}
-use Rattle.block.specs.Sound.{Widths, SoundBlock}
+use Rattle.block.specs.Block.{profileShape, cctShape, rangeRule, blockCheck}
+use Rattle.block.specs.Sound.{SoundBlock}
 use Rattle.block.proofs.Ranges.{sound}
-use Rattle.lookup.specs.declared.Checked.{Checked}
 use Rattle.lookup.specs.declared.Checked.the-variants.{Valid, Refused}
 use Rattle.lookup.specs.Lookup.{checkedBlock, checkedAt, profileBlock, cctBlock}
+use Rattle.lookup.proofs.Demand2.{profile-there-iff, cct-there-iff}
 
 refusal-of : Element → Refusal
 refusal-of (Element.At place) = No.Index
@@ -41,43 +36,12 @@ only-index a i e = sym (ap refusal-of e) ∙ by (ltb i (a .count))
     by true = refl
     by false = refl
 
-block-of : Checked → Block → Block
-block-of (Valid b) other = b
-block-of (Refused r) other = other
-
-tag : Checked → ℕ
-tag (Valid b) = 1
-tag (Refused r) = 0
-
-module _ (file : List ℕ) (h : Shape) (w : Widths h) (i : ℕ) (b : Block) where
-  passed-sound : (sections : List (List ℕ)) (a : Block) (c : Check) → blockCheck file h sections a ≡ c → ifPassed Refused c (Valid a) ≡ Valid b
-      → SoundBlock file h b
-  unfolding ifPassed block-of tag
-  passed-sound sections a Check.Passed e f = rw (ap (λ (x : Checked). block-of x a) f) at (sound file h sections a w e)
-  passed-sound sections a (Check.Refused r) e f = absurd (omega (arith, ap tag f))
-
-  element-sound : (sections : List (List ℕ)) (e : Element) → onElement Refused e (λ at. checkedBlock file h sections (blockAt file h at)) ≡ Valid b
-      → SoundBlock file h b
-  unfolding onElement checkedBlock tag
-  element-sound sections (Element.At at) f = passed-sound sections (blockAt file h at) (blockCheck file h sections (blockAt file h at)) refl f
-  element-sound sections (Element.Refused r) f = absurd (omega (arith, ap tag f))
-
-  opened-sound : (f : Format.Format) → onOpened Refused f file (λ ps. checkedAt file h ps i) ≡ Valid b → SoundBlock file h b
-  unfolding onOpened ifPassed checkedAt tag
-  opened-sound f = go (pairs f file) (opening f file)
-    where
-      go : (ps : List (List ℕ)) (c : Check) → ifPassed Refused c (checkedAt file h ps i) ≡ Valid b → SoundBlock file h b
-      go ps Check.Passed e = element-sound ps (elementAt (arrayOf file (placeIn ps Section.infos) Format.infosArray) i) e
-      go ps (Check.Refused r) e = absurd (omega (arith, ap tag e))
-
 module _ (file : List ℕ) (i : ℕ) (b : Block) where
   pub profile-sound : profileBlock file i ≡ Valid b → SoundBlock file profileShape b
-  unfolding profileBlock
-  profile-sound = opened-sound file profileShape (inr refl, inl refl) i b Format.profile
+  profile-sound e = sound file profileShape (pairs Format.profile file) b (inr refl, inl refl) (profile-there-iff file i b .0 e .well-formed)
 
   pub cct-sound : cctBlock file i ≡ Valid b → SoundBlock file cctShape b
-  unfolding cctBlock
-  cct-sound = opened-sound file cctShape (inl refl, inr refl) i b Format.cct
+  cct-sound e = sound file cctShape (pairs Format.cct file) b (inl refl, inr refl) (cct-there-iff file i b .0 e .well-formed)
 
 -- beside the section of cct.db, one of size 0 counts for nothing
 pub one-section : (file : List ℕ) (h : Shape) (p : List ℕ) (i : ℕ) → checkedAt file h (p ∷ (0 ∷ 0 ∷ []) ∷ []) i ≡ checkedAt file h (p ∷ []) i

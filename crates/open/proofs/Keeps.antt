@@ -1,10 +1,11 @@
--- A file opens exactly if it keeps the rules: each test is turned into its fact and back, then the sections go by position.
+-- A file opens exactly if it keeps the rules, and is refused by the first that it breaks: each test is turned into its fact and back,
+-- then the checks are put together, those of the sections by position.
 use Prim.Native.Nat.{ℕ, zero, suc, _+_, _-_, _*_, _%_, _≤_, _<_}
 use mathlib.Core.Bool.{Bool, true, false, _&&_, _||_, not}
 use mathlib.Core.List.{List, [], _∷_}
-use mathlib.Core.Logic.{_↔_}
-use mathlib.Core.Path.{_≡_, refl}
-use native.Mathlib.Nat.{add-zero, zero-add, not-suc-le-zero, le-of-suc-le-suc}
+use mathlib.Core.Logic.{_↔_, _⊎_, inl, inr}
+use mathlib.Core.Path.{_≡_, refl, _∙_}
+use native.Mathlib.Nat.{add-zero, not-suc-le-zero, le-of-suc-le-suc}
 use native.Mathlib.Omega.{arith}
 use borrow.Author.Tests.{leb-true, le-leb, eqb-true, eq-eqb, ne-eqb, eqb-false}
 use lib.Dec.{leb, eqb}
@@ -12,16 +13,17 @@ use lib.ListN.{length, getD}
 use Rattle.le.specs.Number.{number}
 use Rattle.range.specs.Range.{within, multiple}
 use Rattle.range.proofs.Tests.{both, unless, within-iff, multiple-iff}
+use Rattle.refusal.specs.declared.Refusal.{Refusal}
 use Rattle.refusal.specs.declared.Refusal.the-variants as No
 use Rattle.refusal.specs.declared.Check.{Check}
 use Rattle.refusal.specs.declared.Check.the-variants.{Passed}
-use Rattle.refusal.specs.Check.{rule, first}
-use Rattle.refusal.proofs.Checks.{rule-passes, first-passes}
-use Rattle.layout.specs.Stands.{stands, Stands}
+use Rattle.refusal.proofs.Checks.{not-both, Says, restated, rule-says, first-says}
+use Rattle.layout.specs.Stands.{stands}
 use Rattle.layout.proofs.Prefix.{stands-iff}
 use Rattle.open.specs.Format.{u64, Stride, Content, nothing, array, roots, Section, stringsSection, Format, sectionAt}
 use Rattle.open.specs.Opening.{pairs, placeIn, sizeIn, sectionRule, strideRule, arrayRule, contextsRule, field, numberAt, strideRules, contentRule, headerRule, frontRules, inOrder, sectionCheck, headerCheck, openingWith, opening}
-use Rattle.open.specs.Kept.{SectionKept, StrideKept, ArrayKept, ContextsKept, StridesKept, ContentKept, AllKept, Opens}
+use Rattle.open.specs.Kept.{SectionKept, StrideKept, ArrayKept, ContextsKept, StridesKept, ContentKept, Opens}
+use Rattle.open.specs.Given.{Long, MagicStands, VersionStands, FooterStands, SectionOf, StridesOf, ContentOf, HeaderOf, SectionsKept, First}
 
 -- ---- tests and facts
 
@@ -106,8 +108,7 @@ contexts-iff at end size place bytes = go (eqb place 0) (eqb bytes 0) refl refl
             no-place = λ h. absurd (eqb-false place 0 p h);
             no-bytes = λ h. absurd (eqb-false bytes 0 b h);
             after = λ h. f h .0;
-            inside =
-                λ h. f h .1;
+            inside = λ h. f h .1;
             aligned = λ h. f h .2;
           },
       λ k. rw b at (l .1 (λ h. (k .after h, k .inside h, k .aligned h))),
@@ -130,108 +131,106 @@ content-iff file at end size roots = contexts-iff at end size (field file at (u6
 
 -- ---- checks in order, by position
 
-in-order-iff : (check : ℕ → Section → Check) (k : ℕ) (ss : List Section)
-    → (inOrder check k ss ≡ Passed) ↔ ((j : ℕ) → j < length ss → check (k + j) (getD ss j stringsSection) ≡ Passed)
-unfolding inOrder
-in-order-iff check k [] = (λ e j h. absurd (not-suc-le-zero h), λ f. refl)
-in-order-iff check k (s ∷ rest) =
-    let b = first-passes (check k s) (inOrder check (k + 1) rest) in
-    let r = in-order-iff check (k + 1) rest in (
-      λ e. at-each (b .0 e .0) (r .0 (b .0 e .1)),
-      λ f. b .1 (rw (add-zero k) at (f 0 (omega arith)), r .1 (λ j h. rw (next j) (f (suc j) (omega arith)))),
-    )
-  where
-    next : (j : ℕ) → k + 1 + j ≡ k + suc j
-    next j = omega arith
+-- of the numbers below n, the first of which something is broken
+abbrev FirstOf : (n : ℕ) → (Kept Broken : ℕ → Type 0) → Type 0
+FirstOf n Kept Broken = (k : ℕ) × ((k < n) × (((j : ℕ) → j < k → Kept j) × Broken k))
 
-    at-each : check k s ≡ Passed → ((j : ℕ) → j < length rest → check (k + 1 + j) (getD rest j stringsSection) ≡ Passed) → (j : ℕ)
-        → j < length (s ∷ rest) → check (k + j) (getD (s ∷ rest) j stringsSection) ≡ Passed
-    at-each here later zero h = rw (add-zero k) here
-    at-each here later (suc j) h = rw (← next j) (later j (le-of-suc-le-suc h))
+-- the check of section j is at position `pos j`
+in-order-says : (check : ℕ → Section → Check) (P : ℕ → Type 0) (G : ℕ → Refusal → Type 0) (k : ℕ) (pos : ℕ → ℕ) → ((j : ℕ) → pos j ≡ k + j)
+    → (ss : List Section) → ((j : ℕ) → Says (check (pos j) (getD ss j stringsSection)) (P j) (G j))
+    → Says (inOrder check k ss) ((j : ℕ) → j < length ss → P j) (λ r. FirstOf (length ss) P (λ j. G j r))
+unfolding inOrder
+in-order-says check P G k pos is [] each = record {
+  passes = (λ e j h. absurd (not-suc-le-zero h), λ f. refl);
+  refuses = λ r. (λ e. absurd (not-both e), λ g. absurd (not-suc-le-zero (g .1 .0)));
+}
+in-order-says check P G k pos is (s ∷ rest) each =
+    let start : pos 0 ≡ k = is 0 ∙ add-zero k in
+    let next = in-order-says check (λ j. P (suc j)) (λ j. G (suc j)) (k + 1) (λ j. pos (suc j)) (λ j. omega (arith, is (suc j)))
+    rest (λ j. each (suc j)) in
+    restated (first-says (check k s) (rw start at (each 0)) next)
+    (λ h. cons (h .0) (h .1), λ h. (h 0 (omega arith), λ j l. h (suc j) (omega arith)))
+    (λ r. (to r, λ g. from r (g .0) (g .1)))
+  where
+    cons : {n : ℕ} → P 0 → ((j : ℕ) → j < n → P (suc j)) → (j : ℕ) → j < suc n → P j
+    cons here later zero l = here
+    cons here later (suc j) l = later j (le-of-suc-le-suc l)
+
+    to : (r : Refusal) → G 0 r ⊎ (P 0 × FirstOf (length rest) (λ j. P (suc j)) (λ j. G (suc j) r)) → FirstOf (suc (length rest)) P (λ j. G j r)
+    to r (inl g) = (0, (omega arith, (λ j l. absurd (not-suc-le-zero l), g)))
+    to r (inr g) = let at = g .1 .1 in (suc (g .1 .0), (omega (arith, at .0), (cons (g .0) (at .1 .0), at .1 .1)))
+
+    from : (r : Refusal) (k : ℕ) → (k < suc (length rest)) × (((j : ℕ) → j < k → P j) × G k r)
+        → G 0 r ⊎ (P 0 × FirstOf (length rest) (λ j. P (suc j)) (λ j. G (suc j) r))
+    from r zero g = inl (g .1 .1)
+    from r (suc k) g = inr (g .1 .0 0 (omega arith), (k, (le-of-suc-le-suc (g .0), (λ j l. g .1 .0 (suc j) (omega arith), g .1 .1))))
+
+all-say : (check : ℕ → Section → Check) (ss : List Section) {P : ℕ → Type 0} {G : ℕ → Refusal → Type 0}
+    → ((j : ℕ) → Says (check j (getD ss j stringsSection)) (P j) (G j))
+    → Says (inOrder check 0 ss) ((j : ℕ) → j < length ss → P j) (λ r. FirstOf (length ss) P (λ j. G j r))
+all-say check ss {P} {G} each = in-order-says check P G 0 (λ j. j) (λ j. omega arith) ss each
 
 pub all-iff : (check : ℕ → Section → Check) (ss : List Section)
     → (inOrder check 0 ss ≡ Passed) ↔ ((j : ℕ) → j < length ss → check j (getD ss j stringsSection) ≡ Passed)
-all-iff check ss =
-    let i = in-order-iff check 0 ss in
-    (λ e j h. rw (zero-add j) at (i .0 e j h), λ f. i .1 (λ j h. rw (zero-add j) (f j h)))
+all-iff check ss = all-say check ss (λ j. record { passes = (λ e. e, λ e. e); refuses = λ r. (λ e. e, λ e. e) }) .passes
 
--- ---- one section, and the file
+-- ---- the file
 
-module _ (header : ℕ) (file : List ℕ) (ps : List (List ℕ)) (k : ℕ) (s : Section) where
-  checks-iff : ((sectionCheck header file ps k s ≡ Passed) × (headerCheck file ps k s ≡ Passed)) ↔ AllKept header file s (placeIn ps k) (sizeIn ps k)
-  unfolding sectionCheck headerCheck headerRule
-  checks-iff =
-      let place = placeIn ps k in
-      let size = sizeIn ps k in
-      let sr = sectionRule header (length file - 8) (s .end) (s .align) place size in
-      let tr = strideRules file place (s .strides) in
-      let cr = contentRule file place (s .end) size (s .content) in
-      let i = section-iff header (length file - 8) (s .end) (s .align) place size in
-      let j = strides-iff file place (s .strides) in
-      let c = content-iff file place (s .end) size (s .content) in
-      let b = first-passes (rule tr No.Stride) (rule cr No.Array) in (
-        λ e. record {
-          section = i .0 (rule-passes sr No.Section .0 (e .0));
-          strides = j .0 (rule-passes tr No.Stride .0 (b .0 (e .1) .0));
-          content = c .0 (rule-passes cr No.Array .0 (b .0 (e .1) .1));
-        },
-        λ a. (
-          rule-passes sr No.Section .1 (i .1 (a .section)),
-          b .1 (rule-passes tr No.Stride .1 (j .1 (a .strides)), rule-passes cr No.Array .1 (c .1 (a .content))),
-        ),
-      )
+-- the rule of one refusal is broken
+abbrev pub Breaks : (own : Refusal) → Type 0 → Refusal → Type 0
+Breaks own P r = (own ≡ r) × (P → ⊥)
 
 module _ (f : Format) (file : List ℕ) where
-  front-iff : (frontRules (f .magic) (f .footer) (f .header) file ≡ Passed) ↔ ((f .header + 8 ≤ length file) × Stands file 0 (f .magic) × (number 1 file 14 ≡ 4) × Stands file (length file - 8) (f .footer))
-  unfolding frontRules
-  front-iff =
-      let l = leb (f .header + 8) (length file) in
-      let m = stands file 0 (f .magic) in
-      let v = eqb (number 1 file 14) 4 in
-      let t = stands file (length file - 8) (f .footer) in
-      let a = first-passes (rule l No.Short) (first (rule m No.Magic) (first (rule v No.Version) (rule t No.Footer))) in
-      let b = first-passes (rule m No.Magic) (first (rule v No.Version) (rule t No.Footer)) in
-      let c = first-passes (rule v No.Version) (rule t No.Footer) in (
-        λ e. (
-          leb-true (f .header + 8) (length file) (rule-passes l No.Short .0 (a .0 e .0)),
-          stands-iff file 0 (f .magic) .0 (rule-passes m No.Magic .0 (b .0 (a .0 e .1) .0)),
-          eqb-true (number 1 file 14) 4 (rule-passes v No.Version .0 (c .0 (b .0 (a .0 e .1) .1) .0)),
-          stands-iff file (length file - 8) (f .footer) .0 (rule-passes t No.Footer .0 (c .0 (b .0 (a .0 e .1) .1) .1)),
-        ),
-        λ k. a .1 (
-          rule-passes l No.Short .1 (le-leb (f .header + 8) (length file) (k .0)),
-          b .1 (
-            rule-passes m No.Magic .1 (stands-iff file 0 (f .magic) .1 (k .1)),
-            c .1 (
-              rule-passes v No.Version .1 (eq-eqb (number 1 file 14) 4 (k .2)),
-              rule-passes t No.Footer .1 (stands-iff file (length file - 8) (f .footer) .1 (k .3)),
-            ),
-          ),
-        ),
-      )
+  abbrev pub FrontPassed : Type 0
+  FrontPassed = Long f file × (MagicStands f file × (VersionStands f file × FooterStands f file))
 
-  sections-iff : (ps : List (List ℕ))
-      → (first (inOrder (sectionCheck (f .header) file ps) 0 (f .sections)) (inOrder (headerCheck file ps) 0 (f .sections)) ≡ Passed) ↔
-      ((j : ℕ) → j < length (f .sections) → AllKept (f .header) file (sectionAt f j) (placeIn ps j) (sizeIn ps j))
-  sections-iff ps =
-      let b = first-passes (inOrder (sectionCheck (f .header) file ps) 0 (f .sections)) (inOrder (headerCheck file ps) 0 (f .sections)) in
-      let s = all-iff (sectionCheck (f .header) file ps) (f .sections) in
-      let h = all-iff (headerCheck file ps) (f .sections) in (
-        λ e j l. checks-iff (f .header) file ps j (sectionAt f j) .0 (s .0 (b .0 e .0) j l, h .0 (b .0 e .1) j l),
-        λ k. b .1 (
-          s .1 (λ j l. checks-iff (f .header) file ps j (sectionAt f j) .1 (k j l) .0),
-          h .1 (λ j l. checks-iff (f .header) file ps j (sectionAt f j) .1 (k j l) .1),
-        ),
-      )
+  -- the first rule that is broken, in the order of the rules: of 1 to 4, of 5 to 7
+  abbrev pub FrontBroken : Refusal → Type 0
+  FrontBroken r =
+      Breaks No.Short (Long f file) r
+      ⊎ (Long f file × (Breaks No.Magic (MagicStands f file) r
+      ⊎ (MagicStands f file × (Breaks No.Version (VersionStands f file) r
+      ⊎ (VersionStands f file × Breaks No.Footer (FooterStands f file) r)))))
+
+  abbrev pub SectionsBroken : Refusal → Type 0
+  SectionsBroken r =
+      First f file (SectionOf f file) (λ k. Breaks No.Section (SectionOf f file k) r)
+      ⊎ (SectionsKept f file × First f file (HeaderOf f file) (λ k.
+      Breaks No.Stride (StridesOf f file k) r ⊎ (StridesOf f file k × Breaks No.Array (ContentOf f file k) r)))
+
+  pub opening-says : Says (opening f file) (FrontPassed × (SectionsKept f file × ((k : ℕ) → k < length (f .sections) → HeaderOf f file k)))
+      (λ r. FrontBroken r ⊎ (FrontPassed × SectionsBroken r))
+  unfolding opening openingWith frontRules sectionCheck headerCheck headerRule
+  opening-says =
+      let ps = pairs f file in
+      let least = f .header + 8 in
+      let last = length file - 8 in
+      first-says _
+      (first-says _ (rule-says (leb least (length file)) (leb-true least (length file), le-leb least (length file)))
+      (first-says _ (rule-says (stands file 0 (f .magic)) (stands-iff file 0 (f .magic)))
+      (first-says _ (rule-says (eqb (number 1 file 14) 4) (eqb-true (number 1 file 14) 4, eq-eqb (number 1 file 14) 4))
+      (rule-says (stands file last (f .footer)) (stands-iff file last (f .footer))))))
+      (first-says _
+      (all-say (sectionCheck (f .header) file ps) (f .sections) (λ j.
+      rule-says _ (section-iff (f .header) last (sectionAt f j .end) (sectionAt f j .align) (placeIn ps j) (sizeIn ps j))))
+      (all-say (headerCheck file ps) (f .sections) (λ j.
+      first-says _ (rule-says _ (strides-iff file (placeIn ps j) (sectionAt f j .strides)))
+      (rule-says _ (content-iff file (placeIn ps j) (sectionAt f j .end) (sizeIn ps j) (sectionAt f j .content))))))
 
   pub opens-iff : (opening f file ≡ Passed) ↔ Opens f file
-  unfolding opening openingWith
   opens-iff =
-      let ps = pairs f file in
-      let b = first-passes (frontRules (f .magic) (f .footer) (f .header) file)
-      (first (inOrder (sectionCheck (f .header) file ps) 0 (f .sections)) (inOrder (headerCheck file ps) 0 (f .sections))) in (
+      let i = opening-says .passes in (
         λ e.
-            let k = front-iff .0 (b .0 e .0) in
-            record { long = k .0; magic = k .1; version = k .2; footer = k .3; section = sections-iff ps .0 (b .0 e .1) },
-        λ o. b .1 (front-iff .1 (o .long, o .magic, o .version, o .footer), sections-iff ps .1 (o .section)),
+            let k = i .0 e in
+            record {
+              long = k .0 .0;
+              magic = k .0 .1 .0;
+              version = k .0 .1 .1 .0;
+              footer = k .0 .1 .1 .1;
+              section = λ j l. record { section = k .1 .0 j l; strides = k .1 .1 j l .0; content = k .1 .1 j l .1 };
+            },
+        λ o. i .1 (
+          (o .long, (o .magic, (o .version, o .footer))),
+          (λ j l. o .section j l .section, λ j l. (o .section j l .strides, o .section j l .content)),
+        ),
       )

@@ -2,3 +2,4 @@ pub mod Answer
 pub mod Keeps
 pub mod Inside
 pub mod Stages
+pub mod Given

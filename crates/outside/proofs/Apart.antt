@@ -1,25 +1,22 @@
--- Two ranges are apart exactly if no byte is in both; what lies outside the sections ends inside the file.
-use Prim.Native.Nat.{ℕ, zero, suc, _+_, _-_, _*_, _≤_, _<_}
+-- Two ranges are apart exactly if no byte is in both; bytes lie outside the sections exactly if they are apart from each.
+use Prim.Native.Nat.{ℕ, zero, suc, _+_, _-_, _*_, _<_}
 use mathlib.Core.Bool.{Bool, true, false, _||_}
 use mathlib.Core.List.{List, [], _∷_}
 use mathlib.Core.Logic.{_↔_}
 use mathlib.Core.Path.{_≡_, refl}
-use native.Mathlib.Nat.{zero-mul, mul-zero, mul-pos}
+use native.Mathlib.Nat.{zero-mul, mul-zero, mul-pos, not-suc-le-zero, le-of-suc-le-suc}
 use native.Mathlib.Omega.{arith}
 use borrow.Author.Tests.{leb-true, leb-false, eqb-true, eq-eqb, ne-eqb}
 use lib.Dec.{leb, eqb}
-use lib.ListN.{length}
+use lib.ListN.{length, getD}
 use Rattle.range.specs.Range.{within}
 use Rattle.range.proofs.Tests.{both, within-iff}
 use Rattle.outside.specs.Outside.{apart, apartAll, lies}
+use Rattle.outside.specs.Facts.{Disjoint, LiesOutside}
 
 ne-zero : (n : ℕ) → eqb n 0 ≡ false → 0 < n
 ne-zero zero e = absurd (let o : _≡_ {A = ℕ} 0 1 = cc in omega arith)
 ne-zero (suc n) e = omega arith
-
--- no byte is in both
-abbrev pub Disjoint : (at n place size : ℕ) → Type 0
-Disjoint at n place size = (p : ℕ) → at ≤ p → p < at + n → place ≤ p → p < place + size → ⊥
 
 module _ (at n place size : ℕ) where
   pub apart-disjoint : apart at n place size ≡ true → Disjoint at n place size
@@ -56,6 +53,35 @@ module _ (at n place size : ℕ) where
 pub apart-iff : (at n place size : ℕ) → (apart at n place size ≡ true) ↔ Disjoint at n place size
 apart-iff at n place size = (apart-disjoint at n place size, disjoint-apart at n place size)
 
+-- apart from all sections exactly if from each
+all-iff : (at n : ℕ) (ps : List (List ℕ))
+    → (apartAll at n ps ≡ true) ↔ ((k : ℕ) → k < length ps → Disjoint at n (getD (getD ps k []) 0 0) (getD (getD ps k []) 1 0))
+unfolding apartAll
+all-iff at n [] = (λ e k l. absurd (not-suc-le-zero l), λ f. refl)
+all-iff at n (p ∷ ps) =
+    let b = both (apart at n (getD p 0 0) (getD p 1 0)) (apartAll at n ps) in
+    let a = apart-iff at n (getD p 0 0) (getD p 1 0) in
+    let r = all-iff at n ps in
+    (λ e. each (a .0 (b .0 e .0)) (r .0 (b .0 e .1)), λ f. b .1 (a .1 (f 0 (omega arith)), r .1 (λ k l. f (suc k) (omega arith))))
+  where
+    each : Disjoint at n (getD p 0 0) (getD p 1 0)
+        → ((k : ℕ) → k < length ps → Disjoint at n (getD (getD ps k []) 0 0) (getD (getD ps k []) 1 0))
+        → (k : ℕ) → k < length (p ∷ ps) → Disjoint at n (getD (getD (p ∷ ps) k []) 0 0) (getD (getD (p ∷ ps) k []) 1 0)
+    each here later zero l = here
+    each here later (suc k) l = later k (le-of-suc-le-suc l)
+
+-- the test of where n bytes lie says what it is named for: behind the header, before the last eight bytes, in no section
+pub lies-iff : (file : List ℕ) (header : ℕ) (sections : List (List ℕ)) (at n : ℕ)
+    → (lies file header sections at n ≡ true) ↔ LiesOutside file header sections at n
+unfolding lies
+lies-iff file header sections at n =
+    let b = both (within header (length file - 8) at n) (apartAll at n sections) in
+    let w = within-iff header (length file - 8) at n in
+    let a = all-iff at n sections in (
+      λ e. record { after = w .0 (b .0 e .0) .0; before = w .0 (b .0 e .0) .1; shares-none = a .0 (b .0 e .1) },
+      λ k. b .1 (w .1 (k .after, k .before), a .1 (k .shares-none)),
+    )
+
 -- n elements of a stride have no byte exactly if there are none, or the stride is 0
 pub none-product : (n stride : ℕ) → eqb (n * stride) 0 ≡ (eqb n 0 || eqb stride 0)
 none-product n stride = go (eqb n 0) refl (eqb stride 0) refl
@@ -64,11 +90,6 @@ none-product n stride = go (eqb n 0) refl (eqb stride 0) refl
     go true e b f = eq-eqb (n * stride) 0 (rw (eqb-true n 0 e) (zero-mul stride))
     go false e true f = eq-eqb (n * stride) 0 (rw (eqb-true stride 0 f) (mul-zero n))
     go false e false f = ne-eqb (n * stride) 0 (λ z. omega (arith, mul-pos (ne-zero n e) (ne-zero stride f)))
-
-pub lies-ends : (file : List ℕ) (sections : List (List ℕ)) (header at n : ℕ) → lies file header sections at n ≡ true → at + n ≤ length file
-unfolding lies
-lies-ends file sections header at n e =
-    omega (arith, within-iff header (length file - 8) at n .0 (both (within header (length file - 8) at n) (apartAll at n sections) .0 e .0) .1)
 
 -- a section of size 0 counts for nothing
 pub lies-one : (file : List ℕ) (header : ℕ) (p : List ℕ) (at n : ℕ) → lies file header (p ∷ (0 ∷ 0 ∷ []) ∷ []) at n ≡ lies file header (p ∷ []) at n

@@ -1,1 +1,2 @@
 pub mod Outside
+pub mod Facts

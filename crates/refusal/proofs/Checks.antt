@@ -1,8 +1,8 @@
--- Checks pass exactly if each rule holds, and a check that passed adds nothing to another.
+-- Checks pass exactly if each rule holds, and else refuse by the first that does not; a check that passed adds nothing to another.
 use Prim.Native.Nat.{ℕ}
-use mathlib.Core.Bool.{Bool, true, false, _&&_}
-use mathlib.Core.Logic.{_↔_}
-use mathlib.Core.Path.{_≡_, refl}
+use mathlib.Core.Bool.{Bool, true, false, _&&_, true≢false}
+use mathlib.Core.Logic.{_↔_, _⊎_, inl, inr}
+use mathlib.Core.Path.{_≡_, refl, sym, ap}
 use native.Mathlib.Omega.{arith}
 use Rattle.refusal.specs.declared.Refusal.{Refusal}
 use Rattle.refusal.specs.declared.Check.{Check}
@@ -53,3 +53,67 @@ after-refused b e = rw e
 
 pub not-both : {r : Refusal} → Passed ≡ Refused r → ⊥
 not-both e = let z : _≡_ {A = ℕ} 0 1 = cc in omega arith
+
+-- ---- all that a check says: it passes exactly if P, and it refuses by r exactly if G r
+
+pub record Says (c : Check) (P : Type 0) (G : Refusal → Type 0) : Type 0 where
+  pub passes : (c ≡ Passed) ↔ P
+  pub refuses : (r : Refusal) → (c ≡ Refused r) ↔ G r
+
+-- in other words
+pub restated : {c : Check} {P Q : Type 0} {G H : Refusal → Type 0} → Says c P G → P ↔ Q → ((r : Refusal) → G r ↔ H r) → Says c Q H
+restated s i j = record {
+  passes = (λ e. i .0 (s .passes .0 e), λ q. s .passes .1 (i .1 q));
+  refuses = λ r. (λ e. j r .0 (s .refuses r .0 e), λ h. s .refuses r .1 (j r .1 h));
+}
+
+-- a rule refuses by its own refusal, exactly if what it tests does not hold
+pub rule-says : (t : Bool) {own : Refusal} {P : Type 0} → (t ≡ true) ↔ P → Says (rule t own) P (λ r. (own ≡ r) × (P → ⊥))
+unfolding rule
+rule-says true i = record {
+  passes = (λ e. i .0 refl, λ p. refl);
+  refuses = λ r. (λ e. absurd (not-both e), λ g. absurd (g .1 (i .0 refl)));
+}
+rule-says false i = record {
+  passes = (λ e. absurd (not-both (sym e)), λ p. absurd (true≢false (sym (i .1 p))));
+  refuses = λ r. (λ e. (cc, λ p. true≢false (sym (i .1 p))), λ g. ap Refused (g .0));
+}
+
+-- of two the second refuses only where the first passed
+pub first-says : (a : Check) {b : Check} {P Q : Type 0} {G H : Refusal → Type 0} → Says a P G → Says b Q H
+    → Says (first a b) (P × Q) (λ r. G r ⊎ (P × H r))
+unfolding first
+first-says Passed x y = record {
+  passes = (λ e. (x .passes .0 refl, y .passes .0 e), λ h. y .passes .1 (h .1));
+  refuses = λ r. (
+    λ e. inr (x .passes .0 refl, y .refuses r .0 e),
+    λ g. elim g [ inl n ↦ absurd (not-both (x .refuses r .1 n)) | inr h ↦ y .refuses r .1 (h .1) ],
+  );
+}
+first-says (Refused own) x y = record {
+  passes = (λ e. absurd (not-both (sym e)), λ h. x .passes .1 (h .0));
+  refuses = λ r. (
+    λ e. inl (x .refuses r .0 e),
+    λ g. elim g [ inl n ↦ x .refuses r .1 n | inr h ↦ absurd (not-both (sym (x .passes .1 (h .0)))) ],
+  );
+}
+
+-- two rules in their order: both hold; the first does not; the first does and the second not
+module _ (s t : Bool) {own other : Refusal} {P Q : Type 0} (i : (s ≡ true) ↔ P) (j : (t ≡ true) ↔ Q) (d : own ≡ other → ⊥) where
+  says : Says (first (rule s own) (rule t other)) (P × Q) (λ r. ((own ≡ r) × (P → ⊥)) ⊎ (P × ((other ≡ r) × (Q → ⊥))))
+  says = first-says (rule s own) (rule-says s i) (rule-says t j)
+
+  pub both-hold : (first (rule s own) (rule t other) ≡ Passed) ↔ (P × Q)
+  both-hold = says .passes
+
+  pub first-broken : (first (rule s own) (rule t other) ≡ Refused own) ↔ (P → ⊥)
+  first-broken = (
+    λ e. elim (says .refuses own .0 e) [ inl x ↦ x .1 | inr y ↦ absurd (d (sym (y .1 .0))) ],
+    λ n. says .refuses own .1 (inl (refl, n)),
+  )
+
+  pub second-broken : (first (rule s own) (rule t other) ≡ Refused other) ↔ (P × (Q → ⊥))
+  second-broken = (
+    λ e. elim (says .refuses other .0 e) [ inl x ↦ absurd (d (x .0)) | inr y ↦ (y .0, y .1 .1) ],
+    λ n. says .refuses other .1 (inr (n .0, (refl, n .1))),
+  )

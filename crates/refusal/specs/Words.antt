@@ -10,7 +10,3 @@ refusedWords r = numberOf r ∷ []
 unfoldable pub codeIn : (answer : List ℕ) → ℕ
 codeIn [] = 0
 codeIn (code ∷ values) = code
-
-unfoldable pub valuesIn : (answer : List ℕ) → List ℕ
-valuesIn [] = []
-valuesIn (code ∷ values) = values

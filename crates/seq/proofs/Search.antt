@@ -1,16 +1,17 @@
 -- The search by halving in a sequence that does not fall; in a sorted one it finds the key's position.
 use Prim.Native.Nat.{ℕ, zero, suc, _+_, _-_, _/_, _≤_, _<_}
-use mathlib.Core.Bool.{Bool, true, false}
-use mathlib.Core.Logic.{_⊎_, inl, inr}
+use mathlib.Core.Bool.{Bool, true, false, true≢false}
+use mathlib.Core.Logic.{_⊎_, inl, inr, _↔_}
 use mathlib.Core.Path.{_≡_, refl, sym, ap, _∙_}
 use native.Mathlib.Nat.{eq-or-lt-of-le, le-of-suc-le-suc, not-suc-le-zero}
 use native.Mathlib.Numerals.{add-one}
 use native.Mathlib.Decide.{decLe}
 use native.Mathlib.Omega.{arith}
-use borrow.Author.Tests.{le-leb, lt-leb, eq-eqb, ne-eqb}
+use borrow.Author.Tests.{leb-true, leb-false, le-leb, lt-leb, eqb-true, eqb-false, eq-eqb, ne-eqb}
 use lib.Dec.{leb, eqb}
 use Rattle.refusal.specs.Check.{either}
 use Rattle.seq.specs.Sequence.{position, lastUpTo, Sorted, NonDecreasing, Window}
+use Rattle.seq.specs.declared.Position.{Position}
 use Rattle.seq.specs.declared.Position.the-variants.{At, Nowhere}
 
 -- the search by halving: all before `lo` is below the key, and all from `hi` on is at least the key
@@ -48,62 +49,119 @@ module _ {f : ℕ → ℕ} {n key lo hi : ℕ} (s : NonDecreasing f n) (b : Brac
       down k q (inl e) = rw (← e) c
       down k q (inr l) = omega (arith, s m k l q)
 
--- what the position is
+-- ---- what the positions are
+
+-- of the numbers below n, a test holds of k and of none after it; it holds of none
+abbrev LastIs : (t : ℕ → Bool) (n k : ℕ) → Type 0
+LastIs t n k = (k < n) × (t k ≡ true) × ((j : ℕ) → k < j → j < n → t j ≡ false)
+
+abbrev NoneIs : (t : ℕ → Bool) (n : ℕ) → Type 0
+NoneIs t n = (k : ℕ) → k < n → t k ≡ false
+
+-- a search that takes n where the test holds of it, and else goes on below n
+record TakesLast (t : ℕ → Bool) (s : ℕ → Position) : Type 0 where
+  at : (n k : ℕ) → (s n ≡ At k) ↔ LastIs t n k
+  nowhere : (n : ℕ) → (s n ≡ Nowhere) ↔ NoneIs t n
+
+takes-last : (t : ℕ → Bool) (s : ℕ → Position) → s 0 ≡ Nowhere → ((n : ℕ) → s (suc n) ≡ either (t n) (At n) (s n)) → TakesLast t s
+unfolding either
+takes-last t s start more = record { at = at-iff; nowhere = nowhere-at }
+  where
+    -- the numbers below n + 1 are those below n, and n
+    split : {k n : ℕ} → k < suc n → (k ≡ n) ⊎ (k < n)
+    split l = eq-or-lt-of-le (le-of-suc-le-suc l)
+
+    at-iff : (n k : ℕ) → (s n ≡ At k) ↔ LastIs t n k
+    at-iff zero k = (λ e. absurd (let z : _≡_ {A = ℕ} 0 1 = cc in omega arith), λ h. absurd (not-suc-le-zero (h .0)))
+    at-iff (suc n) k = rw (more n) (by (t n) refl (at-iff n k))
+      where
+        by : (b : Bool) → t n ≡ b → (s n ≡ At k) ↔ LastIs t n k → (either b (At n) (s n) ≡ At k) ↔ LastIs t (suc n) k
+        by true h r = (
+          λ e. let z : n ≡ k = cc in (omega arith, rw (← z) h, λ j l m. absurd (omega arith)),
+          λ l. elim (split (l .0)) [ inl x ↦ ap At (sym x) | inr x ↦ absurd (true≢false (sym h ∙ l .2 n x (omega arith))) ],
+        )
+        by false h r = (
+          λ e. let l = r .0 e in (omega (arith, l .0), l .1, λ j p q. elim (split q) [ inl x ↦ rw x h | inr x ↦ l .2 j p x ]),
+          λ l. elim (split (l .0)) [
+            | inl x ↦ absurd (true≢false (sym (l .1) ∙ ap t x ∙ h))
+            | inr x ↦ r .1 (x, l .1, λ j p q. l .2 j p (omega arith))
+          ],
+        )
+
+    nowhere-at : (n : ℕ) → (s n ≡ Nowhere) ↔ NoneIs t n
+    nowhere-at zero = (λ e k l. absurd (not-suc-le-zero l), λ h. start)
+    nowhere-at (suc n) = rw (more n) (by (t n) refl (nowhere-at n))
+      where
+        by : (b : Bool) → t n ≡ b → (s n ≡ Nowhere) ↔ NoneIs t n → (either b (At n) (s n) ≡ Nowhere) ↔ NoneIs t (suc n)
+        by true h r = (λ e. absurd (let z : _≡_ {A = ℕ} 0 1 = cc in omega arith), λ f. absurd (true≢false (sym h ∙ f n (omega arith))))
+        by false h r = (λ e k l. elim (split l) [ inl x ↦ rw x h | inr x ↦ r .0 e k x ], λ f. r .1 (λ k l. f k (omega arith)))
+
+module _ (f : ℕ → ℕ) (key : ℕ) where
+  equals : TakesLast (λ k. eqb (f k) key) (position f key)
+  unfolding position
+  equals = takes-last (λ k. eqb (f k) key) (position f key) refl (λ n. refl)
+
+  up-to : TakesLast (λ k. leb (f k) key) (lastUpTo f key)
+  unfolding lastUpTo
+  up-to = takes-last (λ k. leb (f k) key) (lastUpTo f key) refl (λ n. refl)
+
+-- in a sorted sequence a key's position is k exactly if it stands at k
+pub position-iff : (f : ℕ → ℕ) (key n k : ℕ) → Sorted f n → (position f key n ≡ At k) ↔ ((k < n) × (f k ≡ key))
+position-iff f key n k s = (
+  λ e. let l = equals f key .at n k .0 e in (l .0, eqb-true (f k) key (l .1)),
+  λ h. equals f key .at n k .1 (h .0, eq-eqb (f k) key (h .1), λ j l m. ne-eqb (f j) key (λ e. omega (arith, h .1, s k j l m))),
+)
+
+-- it is nowhere exactly if none of them is the key
+pub nowhere-iff : (f : ℕ → ℕ) (key n : ℕ) → (position f key n ≡ Nowhere) ↔ ((k : ℕ) → k < n → f k ≡ key → ⊥)
+nowhere-iff f key n = (
+  λ e k l. eqb-false (f k) key (equals f key .nowhere n .0 e k l),
+  λ h. equals f key .nowhere n .1 (λ k l. ne-eqb (f k) key (h k l)),
+)
+
+-- the last that is not above a key is k exactly if k's is not, and all behind it are
+pub last-iff : (f : ℕ → ℕ) (key n k : ℕ) → (lastUpTo f key n ≡ At k) ↔ ((k < n) × (f k ≤ key) × ((j : ℕ) → k < j → j < n → key < f j))
+last-iff f key n k = (
+  λ e. let l = up-to f key .at n k .0 e in (l .0, leb-true (f k) key (l .1), λ j p q. leb-false (f j) key (l .2 j p q)),
+  λ h. up-to f key .at n k .1 (h .0, le-leb (f k) key (h .1), λ j p q. lt-leb (f j) key (h .2 j p q)),
+)
+
+-- it is nowhere exactly if all are above the key
+pub last-nowhere-iff : (f : ℕ → ℕ) (key n : ℕ) → (lastUpTo f key n ≡ Nowhere) ↔ ((k : ℕ) → k < n → key < f k)
+last-nowhere-iff f key n = (
+  λ e k l. leb-false (f k) key (up-to f key .nowhere n .0 e k l),
+  λ h. up-to f key .nowhere n .1 (λ k l. lt-leb (f k) key (h k l)),
+)
+
+-- by one direction of these
 pub position-none : (f : ℕ → ℕ) (key n : ℕ) → ((k : ℕ) → k < n → f k ≡ key → ⊥) → position f key n ≡ Nowhere
-unfolding position either
-position-none f key zero h = refl
-position-none f key (suc n) h = rw (ne-eqb _ _ (h n (omega arith))) (position-none f key n (λ k l. h k (omega arith)))
+position-none f key n = nowhere-iff f key n .1
 
 pub position-at : (f : ℕ → ℕ) (key n : ℕ) → Sorted f n → (k : ℕ) → k < n → f k ≡ key → position f key n ≡ At k
-unfolding position either
-position-at f key zero s k l e = absurd (not-suc-le-zero l)
-position-at f key (suc n) s k l e = last (eq-or-lt-of-le (le-of-suc-le-suc l)) (λ m. position-at f key n (λ p q u v. s p q u (omega arith)) k m e)
-  where
-    last : (k ≡ n) ⊎ (k < n) → (k < n → position f key n ≡ At k) → either (eqb (f n) key) (At n) (position f key n) ≡ At k
-    last (inl q) r = rw (eq-eqb (f n) key (ap f (sym q) ∙ e)) (ap At (sym q))
-    last (inr m) r = rw (ne-eqb (f n) key (λ q. omega (arith, s k n m (omega arith)))) (r m)
+position-at f key n s k l e = position-iff f key n k s .1 (l, e)
 
 -- a position is below the number searched
 pub position-below : (f : ℕ → ℕ) (key n k : ℕ) → position f key n ≡ At k → k < n
-unfolding position either
-position-below f key zero k e = absurd (let z : _≡_ {A = ℕ} 0 1 = cc in omega arith)
-position-below f key (suc n) k e = go (eqb (f n) key) refl (position-below f key n k)
-  where
-    go : (t : Bool) → eqb (f n) key ≡ t → (position f key n ≡ At k → k < n) → k < suc n
-    go true h r = let q : At n ≡ At k = rw h at e in let z : n ≡ k = cc in omega arith
-    go false h r = omega (arith, r (rw h at e))
+position-below f key n k e = equals f key .at n k .0 e .0
 
--- the last that is not above a key, where the ends have met on the way to the first above it
-pub last-none : (f : ℕ → ℕ) (key n : ℕ) → ((k : ℕ) → k < n → key < f k) → lastUpTo f key n ≡ Nowhere
-unfolding lastUpTo either
-last-none f key zero h = refl
-last-none f key (suc n) h = rw (lt-leb (f n) key (h n (omega arith))) (last-none f key n (λ k l. h k (omega arith)))
-
-pub last-at : (f : ℕ → ℕ) (key n k : ℕ) → k < n → f k ≤ key → ((j : ℕ) → k < j → j < n → key < f j) → lastUpTo f key n ≡ At k
-unfolding lastUpTo either
-last-at f key zero k l h a = absurd (not-suc-le-zero l)
-last-at f key (suc n) k l h a = last (eq-or-lt-of-le (le-of-suc-le-suc l)) (λ m. last-at f key n k m h (λ j p q. a j p (omega arith)))
-  where
-    last : (k ≡ n) ⊎ (k < n) → (k < n → lastUpTo f key n ≡ At k) → either (leb (f n) key) (At n) (lastUpTo f key n) ≡ At k
-    last (inl q) r = rw (le-leb (f n) key (rw q at h)) (ap At (sym q))
-    last (inr m) r = rw (lt-leb (f n) key (a n m (omega arith))) (r m)
-
-module _ (key : ℕ) {f : ℕ → ℕ} {n lo hi : ℕ} (b : Bracket f n (key + 1) lo hi) (m : hi ≤ lo) where
-  pub bracket-before : lo ≡ 0 → lastUpTo f key n ≡ Nowhere
-  bracket-before e = last-none f key n (λ k l. omega (arith, b .above k (omega (arith, b .lo-le)) l))
-
-  pub bracket-last : 0 < lo → lastUpTo f key n ≡ At (lo - 1)
-  bracket-last l = last-at f key n (lo - 1) (omega (arith, b .lo-le, b .hi-le)) (omega (arith, b .below (lo - 1) (omega arith)))
-      (λ j p q. omega (arith, b .above j (omega arith) q))
+-- and the key stands there
+pub position-key : (f : ℕ → ℕ) (key n k : ℕ) → position f key n ≡ At k → f k ≡ key
+position-key f key n k e = eqb-true (f k) key (equals f key .at n k .0 e .1)
 
 pub last-below : (f : ℕ → ℕ) (key n k : ℕ) → lastUpTo f key n ≡ At k → k < n
-unfolding lastUpTo either
-last-below f key zero k e = absurd (let z : _≡_ {A = ℕ} 0 1 = cc in omega arith)
-last-below f key (suc n) k e = go (leb (f n) key) refl (last-below f key n k)
-  where
-    go : (t : Bool) → leb (f n) key ≡ t → (lastUpTo f key n ≡ At k → k < n) → k < suc n
-    go true h r = let q : At n ≡ At k = rw h at e in let z : n ≡ k = cc in omega arith
-    go false h r = omega (arith, r (rw h at e))
+last-below f key n k e = last-iff f key n k .0 e .0
+
+-- the last that is not above a key, where the ends have met on the way to the first above it
+module _ (key : ℕ) {f : ℕ → ℕ} {n lo hi : ℕ} (b : Bracket f n (key + 1) lo hi) (m : hi ≤ lo) where
+  pub bracket-before : lo ≡ 0 → lastUpTo f key n ≡ Nowhere
+  bracket-before e = last-nowhere-iff f key n .1 (λ k l. omega (arith, b .above k (omega (arith, b .lo-le)) l))
+
+  pub bracket-last : 0 < lo → lastUpTo f key n ≡ At (lo - 1)
+  bracket-last l = last-iff f key n (lo - 1) .1 (
+    omega (arith, b .lo-le, b .hi-le),
+    omega (arith, b .below (lo - 1) (omega arith)),
+    λ j p q. omega (arith, b .above j (omega arith) q),
+  )
 
 -- ---- narrowing down without a choice of sides
 

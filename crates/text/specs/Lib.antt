@@ -1,1 +1,2 @@
 pub mod String
+pub mod Facts

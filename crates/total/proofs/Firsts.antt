@@ -8,15 +8,8 @@ use Rattle.refusal.specs.Check.{either}
 use Rattle.float.specs.Float.{finite, less}
 use Rattle.float.proofs.Order.{less-not, less-same, not-less-trans}
 use Rattle.total.specs.Totals.{startOf, stepOf, tallyTo, allFinite}
+use Rattle.total.specs.Facts.{First, more}
 use Rattle.total.proofs.Loop.{not-finite}
-
--- id and v are those of entry j of n, the first of the best: none is better, and it is better than each one before
-pub record First (better : ℕ → ℕ → Bool) (ids bits : ℕ → ℕ) (n id v j : ℕ) : Type 0 where
-  pub within : j < n
-  pub its-id : id ≡ ids j
-  pub its-bits : v ≡ bits j
-  pub none-better : (i : ℕ) → i < n → better (bits i) v ≡ false
-  pub all-worse : (i : ℕ) → i < j → better v (bits i) ≡ true
 
 -- what an order of finite values has
 record Ordered (better : ℕ → ℕ → Bool) : Type 0 where
@@ -74,9 +67,6 @@ module _ (better : ℕ → ℕ → Bool) (o : Ordered better) (ids bits : ℕ �
 
 -- ---- the smallest and the greatest
 
-abbrev pub more : (x y : ℕ) → Bool
-more x y = less y x
-
 by-less : Ordered less
 by-less = record { same = less-same; other = less-not; through = not-less-trans }
 
@@ -84,7 +74,7 @@ by-more : Ordered more
 by-more = record { same = less-same; other = λ x y. less-not y x; through = λ x y z p q r h k. not-less-trans z y x r q p k h }
 
 module _ (ids bits : ℕ → ℕ) where
-  finite-at : (n : ℕ) → allFinite bits n ≡ true → (i : ℕ) → i < n → finite (bits i) ≡ true
+  pub finite-at : (n : ℕ) → allFinite bits n ≡ true → (i : ℕ) → i < n → finite (bits i) ≡ true
   finite-at n a i l = must (finite (bits i)) (not-finite bits n i l) a
 
   fewer : (n : ℕ) → allFinite bits (suc n) ≡ true → allFinite bits n ≡ true

@@ -8,12 +8,10 @@ use native.Mathlib.Omega.{arith}
 use borrow.Author.Tests.{leb-true, leb-false, le-leb, lt-leb}
 use lib.Dec.{leb}
 use Rattle.range.specs.Range.{multiple}
-use Rattle.range.proofs.Tests.{both}
 use Rattle.refusal.specs.declared.Refusal.the-variants as No
 use Rattle.refusal.specs.declared.Check.{Check}
 use Rattle.refusal.specs.declared.Check.the-variants as Check
 use Rattle.refusal.specs.Check.{rule, first, ifPassed}
-use Rattle.refusal.proofs.Checks.{rule-passes, first-passes}
 use Rattle.open.specs.Format as Format
 use Rattle.open.specs.Names as Section
 use Rattle.open.specs.Opening.{opening, pairs, onOpened}
@@ -22,7 +20,7 @@ use Rattle.array.specs.declared.Element.the-variants as Element
 use Rattle.array.specs.Element.{elementAt, onElement}
 use Rattle.array.specs.Stored.{arrayIn}
 use Rattle.outside.specs.Outside.{lies}
-use Rattle.outside.proofs.Apart.{lies-ends, lies-one}
+use Rattle.outside.proofs.Apart.{lies-one}
 use Rattle.seq.specs.Sequence.{rises}
 use Rattle.seq.proofs.Rising.{rises-nondecreasing}
 use Rattle.le.specs.Number.{number}
@@ -30,6 +28,8 @@ use Rattle.trace.specs.declared.Line.{Line}
 use Rattle.trace.specs.declared.Line.the-variants.{Of, Refused}
 use Rattle.trace.specs.Trace.{timeAt, lineRule, samplesOf, leastGap, lineCheck, lineOf, lineIn, lineAt}
 use Rattle.trace.specs.Sound.{SamplesInside, SoundSamples}
+use Rattle.trace.specs.Facts.{RangeKept}
+use Rattle.trace.proofs.Facts.{range-iff, times-iff, line-passes}
 
 -- a gap is compared with the difference
 pub leb-shift : (time last gap : ℕ) → last ≤ time → leb gap (time - last) ≡ leb (last + gap) time
@@ -45,18 +45,13 @@ module _ (file : List ℕ) (sections : List (List ℕ)) (start end : ℕ) where
   rule-backwards l = rw (lt-leb start end l) (and-false (multiple start 8 && multiple end 4))
 
   pub rule-forwards : lineRule file sections start end ≡ true → start ≤ end
-  unfolding lineRule
-  rule-forwards e =
-      let p = both (multiple start 8 && multiple end 4) _ .0 e .1 in
-      let q = both (leb start end && multiple (end - start) 12) _ .0 p in
-      leb-true start end (both (leb start end) _ .0 (q .0) .0)
+  rule-forwards e = range-iff file sections start end .0 e .in-order
+
+  inside : RangeKept file sections start end → SamplesInside file start (samplesOf start end)
+  inside k = record { ends = omega (arith, k .lies-outside .before) }
 
   pub rule-ends : lineRule file sections start end ≡ true → SamplesInside file start (samplesOf start end)
-  unfolding lineRule
-  rule-ends e =
-      let p = both (multiple start 8 && multiple end 4) _ .0 e .1 in
-      let q = both (leb start end && multiple (end - start) 12) _ .0 p in
-      record { ends = omega (arith, lies-ends file sections (Format.trace .header) start (end - start) (q .1)) }
+  rule-ends e = inside (range-iff file sections start end .0 e)
 
   pub range-broken : lineRule file sections start end ≡ false → (profile : ℕ) → Refused No.Array ≡ lineOf file sections profile start end
   unfolding lineOf lineCheck rule first ifPassed
@@ -94,18 +89,17 @@ samples-of (Refused r) = 0
 
 module _ (file : List ℕ) (sections : List (List ℕ)) (profile place samples : ℕ) where
   of-sound : (owner start end : ℕ) → lineOf file sections owner start end ≡ Of profile place samples → SoundSamples file place samples
-  unfolding lineOf ifPassed tag place-of samples-of lineCheck
+  unfolding lineOf ifPassed tag place-of samples-of
   of-sound owner start end = go (lineCheck file sections start end) refl
     where
       go : (c : Check) → lineCheck file sections start end ≡ c → ifPassed Refused c (Of owner start (samplesOf start end)) ≡ Of profile place samples
           → SoundSamples file place samples
       go Check.Passed p e =
-          let t = first-passes (rule (lineRule file sections start end) No.Array)
-          (rule (rises 0 leastGap (timeAt file start) (samplesOf start end)) No.Order) .0 p in
+          let k = line-passes file sections start end .0 p in
           rw (← ap place-of e, ← ap samples-of e)
           (record {
-            samples = rule-ends file sections start end (rule-passes (lineRule file sections start end) No.Array .0 (t .0));
-            times = rises-nondecreasing 0 leastGap (timeAt file start) (samplesOf start end) (rule-passes _ No.Order .0 (t .1));
+            samples = inside file sections start end (k .0);
+            times = rises-nondecreasing 0 leastGap (timeAt file start) (samplesOf start end) (times-iff file sections start end .1 (k .1));
           })
       go (Check.Refused r) p e = absurd (omega (arith, ap tag e))
 

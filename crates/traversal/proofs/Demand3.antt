@@ -28,6 +28,7 @@ use Rattle.traversal.specs.Demand3.{Call, number, list, trail, listed, I
 use Rattle.traversal.proofs.Begins.{begins-trans, begins-take, begins-cut}
 use Rattle.traversal.proofs.Cut.{truncate-short, truncate-long, list-truncate}
 use Rattle.traversal.proofs.Grows.{isCut, never-cut}
+use Rattle.traversal.proofs.Trail.{trail-same}
 use Rattle.traversal.proofs.Wider.{Wider, wider-traversal, wider-begins}
 use Rattle.traversal.proofs.Table.{idOf, length-table, slot-stays, later-differ, slot-holds}
 use Rattle.traversal.proofs.Ids.{traversal-ids}
@@ -268,7 +269,11 @@ module _ {file : List ℕ} (old new : Call file) (h : length (old .was .listing)
   }
 
 pub demand3 : Demand3
-demand3 = record { one = λ file c. of-one c; two = λ file old new h k. of-two old new h k }
+demand3 = record {
+  one-trail = λ file c d e. trail-same file (a c .lent) (a d .lent) e;
+  one = λ file c. of-one c;
+  two = λ file old new h k. of-two old new h k;
+}
 
 -- ---- answers put otherwise, as in words
 

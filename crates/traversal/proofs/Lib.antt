@@ -5,6 +5,7 @@ pub mod Grows
 pub mod Alike
 pub mod Cut
 pub mod Wider
+pub mod Trail
 pub mod Table
 pub mod Ids
 pub mod Demand3

@@ -19,7 +19,7 @@ pub takes-some : (file : List ℕ) (p : ℕ) → 0 < extent file p
 unfolding extent
 takes-some file p = omega arith
 
-same-bind : (o : Outcome) (K K' : List Entry → Outcome) → ((l : List Entry) → K l ≡ K' l) → bind o K ≡ bind o K'
+pub same-bind : (o : Outcome) (K K' : List Entry → Outcome) → ((l : List Entry) → K l ≡ K' l) → bind o K ≡ bind o K'
 unfolding bind
 same-bind (on l) K K' h = h l
 same-bind (cut l) K K' h = refl

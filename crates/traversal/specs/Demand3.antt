@@ -88,6 +88,9 @@ pub record TwoWalks {file : List ℕ} (old new : Call file) : Type 0 where
 -- ---- of any
 
 pub record Demand3 : Type 0 where
+  -- "The format defines one trail for a file and a table's length"
+  pub one-trail : (file : List ℕ) (c d : Call file) → length (c .was .table) ≡ length (d .was .table)
+      → traversal (askWith file (c .was)) ≡ traversal (askWith file (d .was))
   pub one : (file : List ℕ) (c : Call file) → OneWalk c
   -- "with a listing and a table each at least as long, whatever they held"
   pub two : (file : List ℕ) (old new : Call file) → length (old .was .listing) ≤ length (new .was .listing)

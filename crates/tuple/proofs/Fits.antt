@@ -9,7 +9,6 @@ use borrow.Author.Tests.{not-true, not-false}
 use lib.ListN.{length}
 use Rattle.le.specs.Number.{number}
 use Rattle.range.specs.Range.{within, multiple}
-use Rattle.range.proofs.Tests.{both, within-iff}
 use Rattle.refusal.specs.declared.Refusal.the-variants as No
 use Rattle.refusal.specs.declared.Check.{Check}
 use Rattle.refusal.specs.declared.Check.the-variants as Check
@@ -29,6 +28,7 @@ use Rattle.tuple.specs.declared.Tuple.{Tuple}
 use Rattle.tuple.specs.declared.Tuple.the-variants.{Of, Refused}
 use Rattle.tuple.specs.Tuple.{identifiers, tupleRule, tupleOf, tupleIn, tupleAt}
 use Rattle.tuple.specs.Sound.{SectionInside}
+use Rattle.tuple.proofs.Facts.{tuple-iff}
 
 tag : Tuple → ℕ
 tag (Of a) = 1
@@ -62,10 +62,7 @@ module _ (file : List ℕ) (place size at : ℕ) where
 
   module _ (i : 0 < size → place + size ≤ length file) where
     pub fits : tupleRule file place size at ≡ true → at + (8 + 16 * number 2 file at) ≤ length file
-    unfolding tupleRule
-    fits e =
-        let w = within-iff place (place + size) at (8 + 16 * number 2 file at) .0 (both (multiple at 8) _ .0 e .1) in
-        omega (arith, w .0, w .1, i (omega (arith, w .0, w .1)))
+    fits e = let k = tuple-iff file place size at .0 e in omega (arith, k .starts, k .fits, i (omega (arith, k .starts, k .fits)))
 
     of-bounded : length file < 2 ^ 64 → (a : Array) → tupleOf file place size at ≡ Of a → Bounded a
     unfolding tag array-of identifiers

@@ -1,2 +1,3 @@
 pub mod Tuple
 pub mod Sound
+pub mod Facts

@@ -4,35 +4,10 @@ use mathlib.Core.List.{List, _∷_}
 use mathlib.Core.Path.{_≡_, refl, sym, ap, _∙_}
 use native.Mathlib.Omega.{arith}
 use Rattle.refusal.specs.declared.Refusal.{Refusal}
-use Rattle.refusal.specs.declared.Refusal.the-variants as No
 use Rattle.refusal.specs.Number.{numberOf}
 use Rattle.refusal.specs.Words.{codeIn}
+use Rattle.refusal.proofs.Numbers.{positive}
 use Rattle.words.specs.Convention.{wordsIn}
-
-from-one : (r : Refusal) → (1 ≤ numberOf r) × (numberOf r ≤ 17)
-from-one No.Short = (omega arith, omega arith)
-from-one No.Magic = (omega arith, omega arith)
-from-one No.Version = (omega arith, omega arith)
-from-one No.Footer = (omega arith, omega arith)
-from-one No.Section = (omega arith, omega arith)
-from-one No.Stride = (omega arith, omega arith)
-from-one No.Array = (omega arith, omega arith)
-from-one No.String = (omega arith, omega arith)
-from-one No.Link = (omega arith, omega arith)
-from-one No.Context = (omega arith, omega arith)
-from-one No.Order = (omega arith, omega arith)
-from-one No.Deep = (omega arith, omega arith)
-from-one No.Slot = (omega arith, omega arith)
-from-one No.Twice = (omega arith, omega arith)
-from-one No.Index = (omega arith, omega arith)
-from-one No.NotFinite = (omega arith, omega arith)
-from-one No.Room = (omega arith, omega arith)
-
-pub positive : (r : Refusal) → 1 ≤ numberOf r
-positive r = from-one r .0
-
-pub small : (r : Refusal) → numberOf r ≤ 17
-small r = from-one r .1
 
 leaves : (n : ℕ) → 1 ≤ n → (was values : List ℕ) → was ≡ wordsIn was (n ∷ values)
 unfolding wordsIn

@@ -2,7 +2,7 @@
 use Prim.Native.Nat.{ℕ, zero, suc}
 use mathlib.Core.List.{List, [], _∷_, _++_}
 use Rattle.refusal.specs.Words.{refusedWords}
-use Rattle.open.specs.Format.{meta}
+use Rattle.open.specs.Format.{Format, meta}
 use Rattle.open.specs.Opening.{onOpened}
 use Rattle.meta.specs.Names.{countsIn}
 
@@ -12,17 +12,17 @@ wordsIn was [] = was
 wordsIn was (zero ∷ values) = values
 wordsIn was (suc n ∷ values) = was
 
--- meta.db opened: place and size of each section, in header order
+-- place and size of each section, in header order
 unfoldable pub flat : List (List ℕ) → List ℕ
 flat [] = []
 flat (p ∷ ps) = p ++ flat ps
 
--- what an opened meta.db answers, by its pairs, or the refusal
-abbrev pub openWords : List ℕ → (List (List ℕ) → List ℕ) → List ℕ
-openWords file answer = onOpened refusedWords meta file (λ ps. 0 ∷ answer ps)
+-- what an opened file answers, by its pairs, or the refusal
+abbrev pub openWords : Format → List ℕ → (List (List ℕ) → List ℕ) → List ℕ
+openWords f file answer = onOpened refusedWords f file (λ ps. 0 ∷ answer ps)
 
-abbrev pub sectionsWords : List ℕ → List ℕ
-sectionsWords file = openWords file flat
+abbrev pub sectionsWords : Format → List ℕ → List ℕ
+sectionsWords f file = openWords f file flat
 
 abbrev pub countsWords : List ℕ → List ℕ
-countsWords file = openWords file (countsIn file)
+countsWords file = openWords meta file (countsIn file)

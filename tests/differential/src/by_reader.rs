@@ -1,7 +1,7 @@
 //! The functions of the C interface as the reader answers them: names, arguments, codes and words are those of `ffi`.
 
 use crate::reader::walk::{End, Walked};
-use crate::reader::{cct, meta, profile, trace, walk, Refusal, Text};
+use crate::reader::{cct, meta, profile, trace, walk, Refusal, Span, Text};
 
 pub const ANSWERED: u32 = 0;
 pub const ABSENT: u32 = 100;
@@ -23,15 +23,29 @@ fn text_words(text: Text) -> [u64; 2] {
     [text.place as u64, text.length as u64]
 }
 
+/// Place and size of each section.
+fn section_words<const N: usize>(sections: &[Span]) -> [u64; N] {
+    let mut words = [0; N];
+    for (pair, section) in words.chunks_exact_mut(2).zip(sections) {
+        pair.copy_from_slice(&[section.start as u64, section.size() as u64]);
+    }
+    words
+}
+
 pub fn hpcdb_meta_open(file: &[u8], out: &mut [u64; 16]) -> u32 {
-    let words = meta::sections_of(file).map(|sections| {
-        let mut words = [0; 16];
-        for (pair, section) in words.chunks_exact_mut(2).zip(sections) {
-            pair.copy_from_slice(&[section.start as u64, section.size() as u64]);
-        }
-        words
-    });
-    written(words.map(Some), out)
+    written(meta::sections_of(file).map(|sections| Some(section_words(&sections))), out)
+}
+
+pub fn hpcdb_profile_sections(file: &[u8], out: &mut [u64; 4]) -> u32 {
+    written(profile::sections_of(file).map(|sections| Some(section_words(&sections))), out)
+}
+
+pub fn hpcdb_cct_sections(file: &[u8], out: &mut [u64; 2]) -> u32 {
+    written(cct::sections_of(file).map(|sections| Some(section_words(&sections))), out)
+}
+
+pub fn hpcdb_trace_sections(file: &[u8], out: &mut [u64; 2]) -> u32 {
+    written(trace::sections_of(file).map(|sections| Some(section_words(&sections))), out)
 }
 
 pub fn hpcdb_profile_open(file: &[u8], out: &mut [u64; 1]) -> u32 {

@@ -24,6 +24,9 @@ word_functions! {
     hpcdb_profile_open() -> 1;
     hpcdb_cct_open() -> 1;
     hpcdb_trace_open() -> 1;
+    hpcdb_profile_sections() -> 4;
+    hpcdb_cct_sections() -> 2;
+    hpcdb_trace_sections() -> 2;
     hpcdb_meta_counts() -> 5;
     hpcdb_meta_title() -> 2;
     hpcdb_meta_description() -> 2;

@@ -17,6 +17,9 @@ pub enum Function {
     ProfileOpen,
     CctOpen,
     TraceOpen,
+    ProfileSections,
+    CctSections,
+    TraceSections,
     MetaCounts,
     MetaTitle,
     MetaDescription,
@@ -68,11 +71,14 @@ const fn row(
 }
 
 /// The table of the interface, in the order of `Function`: numbers taken, words of `out`, codes.
-pub const FUNCTIONS: [Row; 26] = [
+pub const FUNCTIONS: [Row; 29] = [
     row(MetaOpen, "hpcdb_meta_open", Meta, [0, 16], &[0]),
     row(ProfileOpen, "hpcdb_profile_open", Profile, [0, 1], &[0]),
     row(CctOpen, "hpcdb_cct_open", Cct, [0, 1], &[0]),
     row(TraceOpen, "hpcdb_trace_open", Trace, [0, 1], &[0]),
+    row(ProfileSections, "hpcdb_profile_sections", Profile, [0, 4], &[0]),
+    row(CctSections, "hpcdb_cct_sections", Cct, [0, 2], &[0]),
+    row(TraceSections, "hpcdb_trace_sections", Trace, [0, 2], &[0]),
     row(MetaCounts, "hpcdb_meta_counts", Meta, [0, 5], &[0]),
     row(MetaTitle, "hpcdb_meta_title", Meta, [0, 2], &[0, 8]),
     row(MetaDescription, "hpcdb_meta_description", Meta, [0, 2], &[0, 8]),
@@ -120,6 +126,9 @@ macro_rules! ask_through {
             ProfileOpen => $interface::hpcdb_profile_open(file, array(out)),
             CctOpen => $interface::hpcdb_cct_open(file, array(out)),
             TraceOpen => $interface::hpcdb_trace_open(file, array(out)),
+            ProfileSections => $interface::hpcdb_profile_sections(file, array(out)),
+            CctSections => $interface::hpcdb_cct_sections(file, array(out)),
+            TraceSections => $interface::hpcdb_trace_sections(file, array(out)),
             MetaCounts => $interface::hpcdb_meta_counts(file, array(out)),
             MetaTitle => $interface::hpcdb_meta_title(file, array(out)),
             MetaDescription => $interface::hpcdb_meta_description(file, array(out)),

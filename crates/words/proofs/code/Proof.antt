@@ -1,5 +1,5 @@
 -- Every number is small.
-use Rattle.words.proofs.Laws.{small}
+use Rattle.refusal.proofs.Numbers.{small}
 use native.Mathlib.Omega.{arith}
 use borrow.Author.Needs.{needs}
 use Rattle.words.proofs.code.Statement.{statement}

@@ -32,7 +32,7 @@ pub fn follow_ups(question: &Question, code: u32, out: &[u64]) -> Vec<Question> 
 }
 
 /// How often each function is asked of a file of its kind: those with more to find more often.
-const WEIGHTS: [(Function, usize); 26] = [
+const WEIGHTS: [(Function, usize); 29] = [
     (MetaOpen, 1),
     (MetaCounts, 1),
     (MetaTitle, 1),
@@ -47,15 +47,18 @@ const WEIGHTS: [(Function, usize); 26] = [
     (MetaWalk, 5),
     (MetaRecords, 5),
     (ProfileOpen, 1),
+    (ProfileSections, 1),
     (ProfileTuple, 2),
     (ProfileIdentifier, 2),
     (ProfileLookup, 4),
     (ProfileLookupMany, 3),
     (CctOpen, 1),
+    (CctSections, 1),
     (CctTotals, 5),
     (CctLookup, 4),
     (CctLookupMany, 3),
     (TraceOpen, 1),
+    (TraceSections, 1),
     (TraceLine, 2),
     (TraceSample, 3),
     (TraceAt, 4),
@@ -205,7 +208,7 @@ fn blocks_question(rng: &mut Rng, function: Function, known: &blocks::Known, foc
         ProfileIdentifier => {
             [element, position(rng, known.tuples.get(element as usize).copied().unwrap_or_default(), None), 0]
         }
-        ProfileOpen | CctOpen => [0; 3],
+        ProfileOpen | ProfileSections | CctOpen | CctSections => [0; 3],
         _ => [element, 0, 0],
     };
     let mut question = Question::new(function, numbers);
@@ -240,7 +243,7 @@ fn pairs(rng: &mut Rng, known: &blocks::Known, element: u64) -> Vec<u64> {
 }
 
 fn trace_question(rng: &mut Rng, function: Function, known: &trace::Known, focus: Option<usize>) -> Question {
-    if function == TraceOpen {
+    if matches!(function, TraceOpen | TraceSections) {
         return Question::new(function, [0; 3]);
     }
     let i = position(rng, known.lines.len(), focus);

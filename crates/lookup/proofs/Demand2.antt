@@ -1,0 +1,150 @@
+-- Demand 2 of lookups, for any format whose first section has the array of blocks: a checked block is there exactly if the file opens,
+-- the element is there and its block is well formed; what a lookup says of it is what the block holds.
+use Prim.Native.Nat.{ℕ, _+_, _*_, _<_}
+use mathlib.Core.Bool.{Bool, true, false}
+use mathlib.Core.List.{List}
+use mathlib.Core.Logic.{_↔_}
+use mathlib.Core.Path.{_≡_, refl, sym, ap}
+use native.Mathlib.Omega.{arith}
+use borrow.Author.Tests.{ltb-true, lt-ltb}
+use lib.Dec.{ltb}
+use Rattle.refusal.specs.declared.Refusal.{Refusal}
+use Rattle.refusal.specs.declared.Refusal.the-variants as No
+use Rattle.refusal.specs.declared.Check.{Check}
+use Rattle.refusal.specs.declared.Check.the-variants as Check
+use Rattle.refusal.specs.Check.{either, ifPassed}
+use Rattle.open.specs.Format as Format
+use Rattle.open.specs.Names as Section
+use Rattle.open.specs.Opening.{opening, pairs, placeIn, onOpened}
+use Rattle.open.proofs.Keeps.{opens-iff}
+use Rattle.array.specs.declared.Array.{Array}
+use Rattle.array.specs.declared.Element.the-variants as Element
+use Rattle.array.specs.Element.{elementAt, onElement}
+use Rattle.array.specs.Stored.{arrayOf, arrayIn}
+use Rattle.block.specs.declared.Shape.{Shape}
+use Rattle.block.specs.declared.Block.{Block}
+use Rattle.block.specs.declared.Lookup.{Lookup}
+use Rattle.block.specs.declared.Lookup.the-variants as Lookup
+use Rattle.block.specs.Block.{profileShape, cctShape, blockAt, blockCheck, lookupIn}
+use Rattle.block.specs.Facts.{WellFormed, Holds}
+use Rattle.block.proofs.Facts.{well-formed-iff, found-iff, absent-iff}
+use Rattle.lookup.specs.declared.Checked.{Checked}
+use Rattle.lookup.specs.declared.Checked.the-variants.{Valid, Refused}
+use Rattle.lookup.specs.Lookup.{checkedBlock, checkedAt, onChecked, profileBlock, cctBlock, profileLookup, cctLookup}
+use Rattle.lookup.specs.Demand2.{There, Says, Demand2}
+
+-- ---- a checked block
+
+passed-iff : (c : Check) (x : Checked) (b : Block) → (ifPassed Refused c x ≡ Valid b) ↔ ((c ≡ Check.Passed) × (x ≡ Valid b))
+unfolding ifPassed
+passed-iff Check.Passed x b = (λ e. (refl, e), λ e. e .1)
+passed-iff (Check.Refused r) x b = (
+  λ e. absurd (let z : _≡_ {A = ℕ} 0 1 = cc in omega arith),
+  λ e. absurd (let q = e .0 in let z : _≡_ {A = ℕ} 0 1 = cc in omega arith),
+)
+
+element-iff : (a : Array) (i : ℕ) (answer : ℕ → Checked) (b : Block)
+    → (onElement Refused (elementAt a i) answer ≡ Valid b) ↔ ((i < a .count) × (answer (a .place + i * a .stride) ≡ Valid b))
+unfolding elementAt onElement either
+element-iff a i answer b = (go (ltb i (a .count)) refl, λ e. rw (lt-ltb i (a .count) (e .0)) (e .1))
+  where
+    go : (t : Bool) → ltb i (a .count) ≡ t
+        → onElement Refused (either t (Element.At (a .place + i * a .stride)) (Element.Refused No.Index)) answer ≡ Valid b
+        → (i < a .count) × (answer (a .place + i * a .stride) ≡ Valid b)
+    go true t e = (ltb-true i (a .count) t, e)
+    go false t e = absurd (let z : _≡_ {A = ℕ} 0 1 = cc in omega arith)
+
+module _ (f : Format.Format) (content : Format.sectionAt f Section.infos .content ≡ Format.infosArray) (h : Shape) (file : List ℕ) (i : ℕ) where
+  abbrev sections : List (List ℕ)
+  sections = pairs f file
+
+  abbrev checked : Checked
+  checked = onOpened Refused f file (λ ps. checkedAt file h ps i)
+
+  -- the array of blocks, and the block of element i
+  abbrev blocks : Array
+  blocks = arrayOf file (placeIn sections Section.infos) Format.infosArray
+
+  abbrev asked : Block
+  asked = blockAt file h (blocks .place + i * blocks .stride)
+
+  same-array : arrayIn f file sections Section.infos ≡ blocks
+  same-array = ap (arrayOf file (placeIn sections Section.infos)) content
+
+  asked-there : (opening f file ≡ Check.Passed) → i < blocks .count → blockCheck file h sections asked ≡ Check.Passed → There f h file i asked
+  asked-there o l w = record {
+    opens = opens-iff f file .0 o;
+    element = rw same-array l;
+    block = rw same-array;
+    well-formed = well-formed-iff file h sections asked .0 w;
+  }
+
+  there-iff : (b : Block) → (checked ≡ Valid b) ↔ There f h file i b
+  unfolding onOpened checkedAt checkedBlock
+  there-iff b = (to, from)
+    where
+      to : checked ≡ Valid b → There f h file i b
+      to e =
+          let o = passed-iff (opening f file) (checkedAt file h sections i) b .0 e in
+          let l = element-iff blocks i (λ at. checkedBlock file h sections (blockAt file h at)) b .0 (o .1) in
+          let w = passed-iff (blockCheck file h sections asked) (Valid asked) b .0 (l .1) in
+          let v = w .1 in
+          let q : asked ≡ b = cc in
+          rw q at (asked-there (o .0) (l .0) (w .0))
+
+      from : There f h file i b → checked ≡ Valid b
+      from t =
+          let q : b ≡ asked = rw same-array at (t .block) in
+          let w : WellFormed file h sections asked = rw q at (t .well-formed) in
+          passed-iff (opening f file) (checkedAt file h sections i) b .1 (
+            opens-iff f file .1 (t .opens),
+            element-iff blocks i (λ at. checkedBlock file h sections (blockAt file h at)) b .1 (
+              rw same-array at (t .element),
+              passed-iff (blockCheck file h sections asked) (Valid asked) b .1 (well-formed-iff file h sections asked .1 w, ap Valid (sym q)),
+            ),
+          )
+
+  -- ---- a lookup in it
+
+  module _ (outer inner : ℕ) where
+    abbrev lookupOf : Lookup
+    lookupOf = onChecked Lookup.Refused checked (λ b. lookupIn file h b outer inner)
+
+    -- an answer that is no refusal comes from a block that is there
+    answer-iff : (x : Lookup) → ((r : Refusal) → Lookup.Refused r ≡ x → ⊥) → (P : Block → Type 0)
+        → ((b : Block) → There f h file i b → (lookupIn file h b outer inner ≡ x) ↔ P b)
+        → (lookupOf ≡ x) ↔ ((b : Block) × (There f h file i b × P b))
+    unfolding onChecked
+    answer-iff x answered P says-of = (go checked refl, λ k. rw (there-iff (k .0) .1 (k .1 .0)) (says-of (k .0) (k .1 .0) .1 (k .1 .1)))
+      where
+        go : (c : Checked) → checked ≡ c → onChecked Lookup.Refused c (λ b. lookupIn file h b outer inner) ≡ x
+            → (b : Block) × (There f h file i b × P b)
+        go (Valid b) e a = let t = there-iff b .0 e in (b, (t, says-of b t .0 a))
+        go (Refused r) e a = absurd (answered r a)
+
+    -- it says a value exactly if the file opens and the asked block is there, well formed and holds the pair; so with absent
+    pub says : Says f h file i outer inner
+        (onChecked Lookup.Refused (onOpened Refused f file (λ ps. checkedAt file h ps i)) (λ b. lookupIn file h b outer inner))
+    says = record {
+      found = λ bits. answer-iff (Lookup.Found bits) (λ r e. let z : _≡_ {A = ℕ} 0 1 = cc in omega arith)
+          (λ b. Holds file h b outer inner bits) (λ b t. found-iff file h b outer inner sections (t .well-formed) bits);
+      absent = answer-iff Lookup.Absent (λ r e. let z : _≡_ {A = ℕ} 0 1 = cc in omega arith)
+          (λ b. (bits : ℕ) → Holds file h b outer inner bits → ⊥) (λ b t. absent-iff file h b outer inner sections (t .well-formed));
+    }
+
+-- a block passes its checks exactly if it is there and well formed, in a file that opens: of a profile, of a context
+pub profile-there-iff : (file : List ℕ) (i : ℕ) (b : Block) → (profileBlock file i ≡ Valid b) ↔ There Format.profile profileShape file i b
+unfolding profileBlock
+profile-there-iff = there-iff Format.profile refl profileShape
+
+pub cct-there-iff : (file : List ℕ) (i : ℕ) (b : Block) → (cctBlock file i ≡ Valid b) ↔ There Format.cct cctShape file i b
+unfolding cctBlock
+cct-there-iff = there-iff Format.cct refl cctShape
+
+-- lookups in profile.db and cct.db say a value exactly if the file opens and the asked block is there, well formed and holds that pair
+pub demand2 : Demand2
+unfolding profileLookup profileBlock cctLookup cctBlock
+demand2 = record {
+  in-profile-db = λ file profile context metric. says Format.profile refl profileShape file profile context metric;
+  in-cct-db = λ file profile context metric. says Format.cct refl cctShape file context metric profile;
+}
