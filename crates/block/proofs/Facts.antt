@@ -15,7 +15,8 @@ use Rattle.refusal.specs.declared.Refusal.the-variants as No
 use Rattle.refusal.specs.declared.Check.{Check}
 use Rattle.refusal.specs.declared.Check.the-variants.{Passed, Refused}
 use Rattle.refusal.specs.Check.{either, rule, first}
-use Rattle.refusal.proofs.Checks.{Says, rule-says, both-hold, first-broken, second-broken}
+use Rattle.refusal.proofs.Numbers.{7-is-not-11}
+use Rattle.refusal.proofs.Checks.{Decides, rule-decides, both-hold, first-broken, second-broken}
 use Rattle.seq.specs.declared.Position.{Position}
 use Rattle.seq.specs.declared.Position.the-variants.{At, Nowhere}
 use Rattle.seq.specs.Sequence.{position}
@@ -37,9 +38,6 @@ none-or-some (suc n) = inr (omega arith)
 
 zero-iff : (n : ℕ) → (eqb n 0 ≡ true) ↔ (n ≡ 0)
 zero-iff n = (eqb-true n 0, eq-eqb n 0)
-
-7-is-not-11 : No.Array ≡ No.Order → ⊥
-7-is-not-11 e = let z : _≡_ {A = ℕ} 0 1 = cc in omega arith
 
 module _ (file : List ℕ) (h : Shape) (sections : List (List ℕ)) (b : Block) where
   -- rule 7 holds exactly if its clauses do
@@ -84,8 +82,8 @@ module _ (file : List ℕ) (h : Shape) (sections : List (List ℕ)) (b : Block) 
   abbrev filled : Check
   filled = first (rule (rangeRule file h sections b) No.Array) (rule (orderRule file h b) No.Order)
 
-  none-says : Says empty (b .total ≡ 0) (λ r. (No.Array ≡ r) × (b .total ≡ 0 → ⊥))
-  none-says = rule-says (eqb (b .total) 0) (zero-iff (b .total))
+  none-decides : Decides empty (b .total ≡ 0) (λ r. (No.Array ≡ r) × (b .total ≡ 0 → ⊥))
+  none-decides = rule-decides (eqb (b .total) 0) (zero-iff (b .total))
 
   -- what is answered, by whether there are indices
   by-count : (c : Check) {P Q : Type 0} → (empty ≡ c) ↔ P → (filled ≡ c) ↔ Q
@@ -105,7 +103,7 @@ module _ (file : List ℕ) (h : Shape) (sections : List (List ℕ)) (b : Block) 
   pub well-formed-iff : (blockCheck file h sections b ≡ Passed) ↔ WellFormed file h sections b
   well-formed-iff =
       let two = both-hold (rangeRule file h sections b) (orderRule file h b) ranges-iff (order-iff file h b) 7-is-not-11 in
-      let i = by-count Passed (none-says .passes) two in (
+      let i = by-count Passed (none-decides .passes) two in (
         λ e. ⊎-map (λ k. k) (λ k. record { some-index = k .0; ranges = k .1 .0; order = k .1 .1 }) (i .0 e),
         λ w. i .1 (⊎-map (λ k. k) (λ k. (k .some-index, (k .ranges, k .order))) w),
       )
@@ -114,7 +112,7 @@ module _ (file : List ℕ) (h : Shape) (sections : List (List ℕ)) (b : Block) 
   pub refused-7 : (blockCheck file h sections b ≡ Refused No.Array)
       ↔ (((b .count ≡ 0) × (b .total ≡ 0 → ⊥)) ⊎ ((0 < b .count) × (RangesKept file h sections b → ⊥)))
   refused-7 =
-      let none = none-says .refuses No.Array in
+      let none = none-decides .refuses No.Array in
       by-count (Refused No.Array) (λ e. none .0 e .1, λ n. none .1 (refl, n))
       (first-broken (rangeRule file h sections b) (orderRule file h b) ranges-iff (order-iff file h b) 7-is-not-11)
 
@@ -122,7 +120,7 @@ module _ (file : List ℕ) (h : Shape) (sections : List (List ℕ)) (b : Block) 
   pub refused-11 : (blockCheck file h sections b ≡ Refused No.Order)
       ↔ ((0 < b .count) × (RangesKept file h sections b × (OrderKept file h b → ⊥)))
   refused-11 =
-      let i = by-count (Refused No.Order) (none-says .refuses No.Order)
+      let i = by-count (Refused No.Order) (none-decides .refuses No.Order)
       (second-broken (rangeRule file h sections b) (orderRule file h b) ranges-iff (order-iff file h b) 7-is-not-11) in
       (λ e. ⊎-elim (λ k. absurd (7-is-not-11 (k .1 .0))) (λ k. k) (i .0 e), λ k. i .1 (inr k))
 

@@ -24,7 +24,7 @@ use Rattle.cases.specs.Flex.{flexParts, flexFile, aModule, aFile, aFunct
 
 -- a walk's answer in words: 0 whole, 101 cut, or the refusal's number; then the number listed
 abbrev walked : (file : List ℕ) (listing table : ℕ) → List ℕ
-walked file listing table = walkedWords (walkedOf (walkOf (ask file (record { listing = listing; table = table }))))
+walked file listing table = walkedWords (walkedOf (walkOf (ask file (record { words = listing; slots = table }))))
 
 -- a lookup's: 0 found, 100 absent, or the refusal's number; then the bits
 abbrev looked : (file : List ℕ) (context metric : ℕ) → List ℕ

@@ -1,21 +1,24 @@
 -- A value by whether there is room for it; sections and counts by whether the file opens.
 use Prim.Native.Nat.{ℕ, _≤_, _<_}
 use mathlib.Core.List.{List, [], _∷_}
-use mathlib.Core.Path.{_≡_, refl}
+use mathlib.Core.Path.{_≡_, refl, sym}
 use native.Mathlib.Omega.{arith}
 use borrow.Author.Tests.{le-leb, lt-leb}
 use lib.ListN.{length}
 use Rattle.refusal.specs.Check.{either, codeOf, ifPassed}
-use Rattle.refusal.specs.Words.{codeIn}
+use Rattle.refusal.specs.declared.Refusal.{Refusal}
+use Rattle.refusal.specs.Number.{numberOf}
+use Rattle.refusal.specs.Words.{refusedWords, codeIn}
 use Rattle.refusal.specs.declared.Check.{Check}
 use Rattle.refusal.specs.declared.Check.the-variants.{Passed, Refused}
 use Rattle.open.specs.Format.{meta}
 use Rattle.open.specs.Format as Format
-use Rattle.open.specs.Opening.{opening, pairAt, pairsFrom, pairs, placeIn, sizeIn, onOpened}
+use Rattle.open.specs.Opening.{opening, pairAt, pairsFrom, pairs, placeIn, sizeIn, openingWith, pairsRead, onOpened}
+use Rattle.open.proofs.Answer.{answers, refuses, told-passed}
 use Rattle.meta.specs.Names.{counts}
-use Rattle.words.specs.Convention.{wordsIn, flat, countsWords}
+use Rattle.words.specs.Convention.{wordsIn, flat, sectionsWords, countsWords}
 use Rattle.refusal.proofs.Numbers.{small, positive}
-use Rattle.words.proofs.Laws.{refused}
+use Rattle.words.proofs.Laws.{answered, refused}
 use Rattle.block.specs.Block.{lookupWords}
 use Rattle.block.specs.declared.Lookup.{Lookup}
 use Rattle.hpcdb.specs.Value.{valueIn, valueCode, valueBytes}
@@ -52,6 +55,17 @@ module _ (file : List ℕ) where
       → placeIn ps 0 ∷ sizeIn ps 0 ∷ [] ≡ flat ps
   unfolding pairs pairsFrom pairAt flat
   one-flat magic footer least ps e = rw e
+
+  -- the sections of a file, by the pairs that were read and the check over them
+  module _ (f : Format.Format) {ps : List (List ℕ)} {c : Check} (p : ps ≡ pairsRead f file) (q : c ≡ openingWith f file ps) (out : List ℕ) where
+    pub sections-answered : c ≡ Passed → {words : List ℕ} → (ps ≡ pairs f file → words ≡ flat ps)
+        → (0 ≡ codeIn (sectionsWords f file)) × (words ≡ wordsIn out (sectionsWords f file))
+    sections-answered h e =
+        rw (e (told-passed f file p q h .same)) (answered out (sym (answers f file p q refusedWords (λ ps. 0 ∷ flat ps) h)))
+
+    pub sections-refused : (r : Refusal) → c ≡ Refused r → {n : ℕ} → n ≡ numberOf r
+        → (n ≡ codeIn (sectionsWords f file)) × (out ≡ wordsIn out (sectionsWords f file))
+    sections-refused r h e = refused out r [] (sym (refuses f file p q refusedWords (λ ps. 0 ∷ flat ps) r h)) e
 
   -- the counts, by the number
   counts-by : (c : Check) → opening meta file ≡ c → {n : ℕ} → n ≡ codeOf c → (n ≡ 0 → countsWords file ≡ 0 ∷ counts file)

@@ -11,7 +11,7 @@ use Rattle.refusal.specs.Number.{numberOf}
 use Rattle.open.specs.Format.{Format, trace}
 use Rattle.open.specs.Opening.{opening}
 use Rattle.open.specs.Given.{FrontKept, Given}
-use Rattle.open.proofs.Keeps.{FrontBroken, FrontPassed, SectionsBroken, opening-says}
+use Rattle.open.proofs.Keeps.{FrontBroken, FrontPassed, SectionsBroken, opening-decides}
 
 module _ (f : Format) (file : List ℕ) where
   given : {own r : Refusal} → own ≡ r → Given f file own → Given f file r
@@ -53,12 +53,12 @@ module _ (f : Format) (file : List ℕ) where
 
 -- opening refuses by r exactly if the rule of r is the first that is broken
 pub refused-iff : (f : Format) (file : List ℕ) (r : Refusal) → (opening f file ≡ Refused r) ↔ Given f file r
-refused-iff f file r = let i = opening-says f file .refuses r in (λ e. to f file (i .0 e), λ h. i .1 (from f file r h .1))
+refused-iff f file r = let i = opening-decides f file .refuses r in (λ e. to f file (i .0 e), λ h. i .1 (from f file r h .1))
 
 -- it has no refusals but 1 to 7
 pub one-to-seven : (f : Format) (file : List ℕ) (r : Refusal) → opening f file ≡ Refused r → numberOf r ≤ 7
 one-to-seven f file r e = from f file r (refused-iff f file r .0 e) .0
 
 -- trace.db is never refused for its footer: an empty one always stands
-pub no-footer : (file : List ℕ) → opening trace file ≡ Refused No.Footer → ⊥
-no-footer file e = refused-iff trace file No.Footer .0 e .3 (record { same = refl })
+pub trace-footer : (file : List ℕ) → opening trace file ≡ Refused No.Footer → ⊥
+trace-footer file e = refused-iff trace file No.Footer .0 e .3 (record { same = refl })

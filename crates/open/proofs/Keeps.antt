@@ -17,7 +17,7 @@ use Rattle.refusal.specs.declared.Refusal.{Refusal}
 use Rattle.refusal.specs.declared.Refusal.the-variants as No
 use Rattle.refusal.specs.declared.Check.{Check}
 use Rattle.refusal.specs.declared.Check.the-variants.{Passed}
-use Rattle.refusal.proofs.Checks.{not-both, Says, restated, rule-says, first-says}
+use Rattle.refusal.proofs.Checks.{not-both, Decides, restated, rule-decides, first-decides}
 use Rattle.layout.specs.Stands.{stands}
 use Rattle.layout.proofs.Prefix.{stands-iff}
 use Rattle.open.specs.Format.{u64, Stride, Content, nothing, array, roots, Section, stringsSection, Format, sectionAt}
@@ -136,19 +136,19 @@ abbrev FirstOf : (n : ℕ) → (Kept Broken : ℕ → Type 0) → Type 0
 FirstOf n Kept Broken = (k : ℕ) × ((k < n) × (((j : ℕ) → j < k → Kept j) × Broken k))
 
 -- the check of section j is at position `pos j`
-in-order-says : (check : ℕ → Section → Check) (P : ℕ → Type 0) (G : ℕ → Refusal → Type 0) (k : ℕ) (pos : ℕ → ℕ) → ((j : ℕ) → pos j ≡ k + j)
-    → (ss : List Section) → ((j : ℕ) → Says (check (pos j) (getD ss j stringsSection)) (P j) (G j))
-    → Says (inOrder check k ss) ((j : ℕ) → j < length ss → P j) (λ r. FirstOf (length ss) P (λ j. G j r))
+in-order-decides : (check : ℕ → Section → Check) (P : ℕ → Type 0) (G : ℕ → Refusal → Type 0) (k : ℕ) (pos : ℕ → ℕ) → ((j : ℕ) → pos j ≡ k + j)
+    → (ss : List Section) → ((j : ℕ) → Decides (check (pos j) (getD ss j stringsSection)) (P j) (G j))
+    → Decides (inOrder check k ss) ((j : ℕ) → j < length ss → P j) (λ r. FirstOf (length ss) P (λ j. G j r))
 unfolding inOrder
-in-order-says check P G k pos is [] each = record {
+in-order-decides check P G k pos is [] each = record {
   passes = (λ e j h. absurd (not-suc-le-zero h), λ f. refl);
   refuses = λ r. (λ e. absurd (not-both e), λ g. absurd (not-suc-le-zero (g .1 .0)));
 }
-in-order-says check P G k pos is (s ∷ rest) each =
+in-order-decides check P G k pos is (s ∷ rest) each =
     let start : pos 0 ≡ k = is 0 ∙ add-zero k in
-    let next = in-order-says check (λ j. P (suc j)) (λ j. G (suc j)) (k + 1) (λ j. pos (suc j)) (λ j. omega (arith, is (suc j)))
+    let next = in-order-decides check (λ j. P (suc j)) (λ j. G (suc j)) (k + 1) (λ j. pos (suc j)) (λ j. omega (arith, is (suc j)))
     rest (λ j. each (suc j)) in
-    restated (first-says (check k s) (rw start at (each 0)) next)
+    restated (first-decides (check k s) (rw start at (each 0)) next)
     (λ h. cons (h .0) (h .1), λ h. (h 0 (omega arith), λ j l. h (suc j) (omega arith)))
     (λ r. (to r, λ g. from r (g .0) (g .1)))
   where
@@ -166,9 +166,9 @@ in-order-says check P G k pos is (s ∷ rest) each =
     from r (suc k) g = inr (g .1 .0 0 (omega arith), (k, (le-of-suc-le-suc (g .0), (λ j l. g .1 .0 (suc j) (omega arith), g .1 .1))))
 
 all-say : (check : ℕ → Section → Check) (ss : List Section) {P : ℕ → Type 0} {G : ℕ → Refusal → Type 0}
-    → ((j : ℕ) → Says (check j (getD ss j stringsSection)) (P j) (G j))
-    → Says (inOrder check 0 ss) ((j : ℕ) → j < length ss → P j) (λ r. FirstOf (length ss) P (λ j. G j r))
-all-say check ss {P} {G} each = in-order-says check P G 0 (λ j. j) (λ j. omega arith) ss each
+    → ((j : ℕ) → Decides (check j (getD ss j stringsSection)) (P j) (G j))
+    → Decides (inOrder check 0 ss) ((j : ℕ) → j < length ss → P j) (λ r. FirstOf (length ss) P (λ j. G j r))
+all-say check ss {P} {G} each = in-order-decides check P G 0 (λ j. j) (λ j. omega arith) ss each
 
 pub all-iff : (check : ℕ → Section → Check) (ss : List Section)
     → (inOrder check 0 ss ≡ Passed) ↔ ((j : ℕ) → j < length ss → check j (getD ss j stringsSection) ≡ Passed)
@@ -198,28 +198,28 @@ module _ (f : Format) (file : List ℕ) where
       ⊎ (SectionsKept f file × First f file (HeaderOf f file) (λ k.
       Breaks No.Stride (StridesOf f file k) r ⊎ (StridesOf f file k × Breaks No.Array (ContentOf f file k) r)))
 
-  pub opening-says : Says (opening f file) (FrontPassed × (SectionsKept f file × ((k : ℕ) → k < length (f .sections) → HeaderOf f file k)))
+  pub opening-decides : Decides (opening f file) (FrontPassed × (SectionsKept f file × ((k : ℕ) → k < length (f .sections) → HeaderOf f file k)))
       (λ r. FrontBroken r ⊎ (FrontPassed × SectionsBroken r))
   unfolding opening openingWith frontRules sectionCheck headerCheck headerRule
-  opening-says =
+  opening-decides =
       let ps = pairs f file in
       let least = f .header + 8 in
       let last = length file - 8 in
-      first-says _
-      (first-says _ (rule-says (leb least (length file)) (leb-true least (length file), le-leb least (length file)))
-      (first-says _ (rule-says (stands file 0 (f .magic)) (stands-iff file 0 (f .magic)))
-      (first-says _ (rule-says (eqb (number 1 file 14) 4) (eqb-true (number 1 file 14) 4, eq-eqb (number 1 file 14) 4))
-      (rule-says (stands file last (f .footer)) (stands-iff file last (f .footer))))))
-      (first-says _
+      first-decides _
+      (first-decides _ (rule-decides (leb least (length file)) (leb-true least (length file), le-leb least (length file)))
+      (first-decides _ (rule-decides (stands file 0 (f .magic)) (stands-iff file 0 (f .magic)))
+      (first-decides _ (rule-decides (eqb (number 1 file 14) 4) (eqb-true (number 1 file 14) 4, eq-eqb (number 1 file 14) 4))
+      (rule-decides (stands file last (f .footer)) (stands-iff file last (f .footer))))))
+      (first-decides _
       (all-say (sectionCheck (f .header) file ps) (f .sections) (λ j.
-      rule-says _ (section-iff (f .header) last (sectionAt f j .end) (sectionAt f j .align) (placeIn ps j) (sizeIn ps j))))
+      rule-decides _ (section-iff (f .header) last (sectionAt f j .end) (sectionAt f j .align) (placeIn ps j) (sizeIn ps j))))
       (all-say (headerCheck file ps) (f .sections) (λ j.
-      first-says _ (rule-says _ (strides-iff file (placeIn ps j) (sectionAt f j .strides)))
-      (rule-says _ (content-iff file (placeIn ps j) (sectionAt f j .end) (sizeIn ps j) (sectionAt f j .content))))))
+      first-decides _ (rule-decides _ (strides-iff file (placeIn ps j) (sectionAt f j .strides)))
+      (rule-decides _ (content-iff file (placeIn ps j) (sectionAt f j .end) (sizeIn ps j) (sectionAt f j .content))))))
 
   pub opens-iff : (opening f file ≡ Passed) ↔ Opens f file
   opens-iff =
-      let i = opening-says .passes in (
+      let i = opening-decides .passes in (
         λ e.
             let k = i .0 e in
             record {

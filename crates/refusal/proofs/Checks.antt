@@ -56,41 +56,41 @@ not-both e = let z : _≡_ {A = ℕ} 0 1 = cc in omega arith
 
 -- ---- all that a check says: it passes exactly if P, and it refuses by r exactly if G r
 
-pub record Says (c : Check) (P : Type 0) (G : Refusal → Type 0) : Type 0 where
+pub record Decides (c : Check) (P : Type 0) (G : Refusal → Type 0) : Type 0 where
   pub passes : (c ≡ Passed) ↔ P
   pub refuses : (r : Refusal) → (c ≡ Refused r) ↔ G r
 
 -- in other words
-pub restated : {c : Check} {P Q : Type 0} {G H : Refusal → Type 0} → Says c P G → P ↔ Q → ((r : Refusal) → G r ↔ H r) → Says c Q H
+pub restated : {c : Check} {P Q : Type 0} {G H : Refusal → Type 0} → Decides c P G → P ↔ Q → ((r : Refusal) → G r ↔ H r) → Decides c Q H
 restated s i j = record {
   passes = (λ e. i .0 (s .passes .0 e), λ q. s .passes .1 (i .1 q));
   refuses = λ r. (λ e. j r .0 (s .refuses r .0 e), λ h. s .refuses r .1 (j r .1 h));
 }
 
 -- a rule refuses by its own refusal, exactly if what it tests does not hold
-pub rule-says : (t : Bool) {own : Refusal} {P : Type 0} → (t ≡ true) ↔ P → Says (rule t own) P (λ r. (own ≡ r) × (P → ⊥))
+pub rule-decides : (t : Bool) {own : Refusal} {P : Type 0} → (t ≡ true) ↔ P → Decides (rule t own) P (λ r. (own ≡ r) × (P → ⊥))
 unfolding rule
-rule-says true i = record {
+rule-decides true i = record {
   passes = (λ e. i .0 refl, λ p. refl);
   refuses = λ r. (λ e. absurd (not-both e), λ g. absurd (g .1 (i .0 refl)));
 }
-rule-says false i = record {
+rule-decides false i = record {
   passes = (λ e. absurd (not-both (sym e)), λ p. absurd (true≢false (sym (i .1 p))));
   refuses = λ r. (λ e. (cc, λ p. true≢false (sym (i .1 p))), λ g. ap Refused (g .0));
 }
 
 -- of two the second refuses only where the first passed
-pub first-says : (a : Check) {b : Check} {P Q : Type 0} {G H : Refusal → Type 0} → Says a P G → Says b Q H
-    → Says (first a b) (P × Q) (λ r. G r ⊎ (P × H r))
+pub first-decides : (a : Check) {b : Check} {P Q : Type 0} {G H : Refusal → Type 0} → Decides a P G → Decides b Q H
+    → Decides (first a b) (P × Q) (λ r. G r ⊎ (P × H r))
 unfolding first
-first-says Passed x y = record {
+first-decides Passed x y = record {
   passes = (λ e. (x .passes .0 refl, y .passes .0 e), λ h. y .passes .1 (h .1));
   refuses = λ r. (
     λ e. inr (x .passes .0 refl, y .refuses r .0 e),
     λ g. elim g [ inl n ↦ absurd (not-both (x .refuses r .1 n)) | inr h ↦ y .refuses r .1 (h .1) ],
   );
 }
-first-says (Refused own) x y = record {
+first-decides (Refused own) x y = record {
   passes = (λ e. absurd (not-both (sym e)), λ h. x .passes .1 (h .0));
   refuses = λ r. (
     λ e. inl (x .refuses r .0 e),
@@ -100,20 +100,20 @@ first-says (Refused own) x y = record {
 
 -- two rules in their order: both hold; the first does not; the first does and the second not
 module _ (s t : Bool) {own other : Refusal} {P Q : Type 0} (i : (s ≡ true) ↔ P) (j : (t ≡ true) ↔ Q) (d : own ≡ other → ⊥) where
-  says : Says (first (rule s own) (rule t other)) (P × Q) (λ r. ((own ≡ r) × (P → ⊥)) ⊎ (P × ((other ≡ r) × (Q → ⊥))))
-  says = first-says (rule s own) (rule-says s i) (rule-says t j)
+  decides : Decides (first (rule s own) (rule t other)) (P × Q) (λ r. ((own ≡ r) × (P → ⊥)) ⊎ (P × ((other ≡ r) × (Q → ⊥))))
+  decides = first-decides (rule s own) (rule-decides s i) (rule-decides t j)
 
   pub both-hold : (first (rule s own) (rule t other) ≡ Passed) ↔ (P × Q)
-  both-hold = says .passes
+  both-hold = decides .passes
 
   pub first-broken : (first (rule s own) (rule t other) ≡ Refused own) ↔ (P → ⊥)
   first-broken = (
-    λ e. elim (says .refuses own .0 e) [ inl x ↦ x .1 | inr y ↦ absurd (d (sym (y .1 .0))) ],
-    λ n. says .refuses own .1 (inl (refl, n)),
+    λ e. elim (decides .refuses own .0 e) [ inl x ↦ x .1 | inr y ↦ absurd (d (sym (y .1 .0))) ],
+    λ n. decides .refuses own .1 (inl (refl, n)),
   )
 
   pub second-broken : (first (rule s own) (rule t other) ≡ Refused other) ↔ (P × (Q → ⊥))
   second-broken = (
-    λ e. elim (says .refuses other .0 e) [ inl x ↦ absurd (d (x .0)) | inr y ↦ (y .0, y .1 .1) ],
-    λ n. says .refuses other .1 (inr (n .0, (refl, n .1))),
+    λ e. elim (decides .refuses other .0 e) [ inl x ↦ absurd (d (x .0)) | inr y ↦ (y .0, y .1 .1) ],
+    λ n. decides .refuses other .1 (inr (n .0, (refl, n .1))),
   )

@@ -1,5 +1,5 @@
 -- Refusals have the numbers from 1 to 17, and 0 is the number of a check that passed.
-use Prim.Native.Nat.{_≤_}
+use Prim.Native.Nat.{ℕ, _≤_}
 use mathlib.Core.Logic.{_↔_}
 use mathlib.Core.Path.{_≡_, refl, sym}
 use native.Mathlib.Omega.{arith}
@@ -29,6 +29,9 @@ from-one No.Twice = (omega arith, omega arith)
 from-one No.Index = (omega arith, omega arith)
 from-one No.NotFinite = (omega arith, omega arith)
 from-one No.Room = (omega arith, omega arith)
+
+pub 7-is-not-11 : No.Array ≡ No.Order → ⊥
+7-is-not-11 e = let z : _≡_ {A = ℕ} 0 1 = cc in omega arith
 
 -- no refusal has the number 0
 pub positive : (r : Refusal) → 1 ≤ numberOf r

@@ -11,6 +11,7 @@ use Rattle.range.specs.Range.{multiple}
 use Rattle.range.proofs.Tests.{both, multiple-iff}
 use Rattle.refusal.specs.declared.Refusal.the-variants as No
 use Rattle.refusal.specs.declared.Check.the-variants.{Passed, Refused}
+use Rattle.refusal.proofs.Numbers.{7-is-not-11}
 use Rattle.refusal.proofs.Checks.{both-hold, first-broken, second-broken}
 use Rattle.open.specs.Format as Format
 use Rattle.outside.specs.Outside.{lies}
@@ -19,9 +20,6 @@ use Rattle.seq.specs.Sequence.{rises}
 use Rattle.seq.proofs.Rising.{rises-next, rises-of}
 use Rattle.trace.specs.Trace.{timeAt, lineRule, samplesOf, leastGap, lineCheck}
 use Rattle.trace.specs.Facts.{RangeKept, TimesKept}
-
-7-is-not-11 : No.Array ≡ No.Order → ⊥
-7-is-not-11 e = let z : _≡_ {A = ℕ} 0 1 = cc in omega arith
 
 module _ (file : List ℕ) (sections : List (List ℕ)) (start end : ℕ) where
   -- rule 7 holds exactly if its clauses do

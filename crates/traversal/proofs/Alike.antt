@@ -10,12 +10,16 @@ use Rattle.context.specs.Entry.{Entry, entryAt}
 use Rattle.traversal.specs.Traversal.{Lengths, ask, Outcome, on, Parameters, parameters, visitCheck, enter, visit, bind, turn, siblings, level}
 use Rattle.traversal.proofs.Grows.{Grows, grows-siblings, grows-level}
 
-module _ (file : List ℕ) (t : Targets) (n n' : Lengths) (free free' : List Entry → Bool) where
-  abbrev pub one : Parameters
-  one = parameters (ask file n) t free
+-- room for one more, whatever there is
+abbrev pub always : List Entry → Bool
+always l = true
 
-  abbrev pub other : Parameters
-  other = parameters (ask file n') t free'
+module _ (file : List ℕ) (t : Targets) (n n' : Lengths) (free free' : List Entry → Bool) where
+  abbrev pub left : Parameters
+  left = parameters (ask file n) t free
+
+  abbrev pub right : Parameters
+  right = parameters (ask file n') t free'
 
   pub record Alike (P : List Entry → Type 0) (R : Outcome → Outcome → Type 0) : Type 0 where
     pub stay : (l : List Entry) → P l → R (on l) (on l)
@@ -23,7 +27,7 @@ module _ (file : List ℕ) (t : Targets) (n n' : Lengths) (free free' : List Ent
         → R (bind o K) (bind o' K')
     pub entered : (path : List ℕ) (p stop : ℕ) (l : List Entry) (e : Entry) (K K' : List Entry → Outcome) → Grows K → Grows K' → P l
         → ((m : List Entry) → P m → R (K m) (K' m))
-        → R (enter (visitCheck one path p stop l) (free l) K l e) (enter (visitCheck other path p stop l) (free' l) K' l e)
+        → R (enter (visitCheck left path p stop l) (free l) K l e) (enter (visitCheck right path p stop l) (free' l) K' l e)
 
   module _ (P : List Entry → Type 0) (R : Outcome → Outcome → Type 0) (a : Alike P R) where
     alike-turn : (b : Bool) (H H' K K' : List Entry → Outcome) (l : List Entry) → Grows K → Grows K' → P l → R (H l) (H' l)
@@ -33,32 +37,32 @@ module _ (file : List ℕ) (t : Targets) (n n' : Lengths) (free free' : List Ent
     alike-turn false H H' K K' l g g' h r k = a .stay l h
 
     module _ (levels : ℕ) (below : (parent : ℕ) (path : List ℕ) (from stop : ℕ) (l : List Entry) → P l
-        → R (level one levels parent path from stop l) (level other levels parent path from stop l)) where
+        → R (level left levels parent path from stop l) (level right levels parent path from stop l)) where
       alike-visit : (parent : ℕ) (path : List ℕ) (p stop : ℕ) (l : List Entry) → P l
-          → R (visit one (level one levels) parent path p stop l) (visit other (level other levels) parent path p stop l)
+          → R (visit left (level left levels) parent path p stop l) (visit right (level right levels) parent path p stop l)
       unfolding visit
       alike-visit parent path p stop l h =
           let from = field file p childrenPlace in
           let to = field file p childrenPlace + field file p childrenBytes in
-          a .entered path p stop l (entryAt file parent path p) (level one levels p path from to) (level other levels p path from to)
-          (grows-level one levels p path from to) (grows-level other levels p path from to) h (below p path from to)
+          a .entered path p stop l (entryAt file parent path p) (level left levels p path from to) (level right levels p path from to)
+          (grows-level left levels p path from to) (grows-level right levels p path from to) h (below p path from to)
 
       alike-siblings : (parent : ℕ) (ups : List ℕ) (bound i p stop : ℕ) (l : List Entry) → P l
-          → R (siblings one (level one levels) parent ups bound i p stop l) (siblings other (level other levels) parent ups bound i p stop l)
+          → R (siblings left (level left levels) parent ups bound i p stop l) (siblings right (level right levels) parent ups bound i p stop l)
       unfolding siblings
       alike-siblings parent ups zero i p stop l h = a .stay l h
       alike-siblings parent ups (suc bound) i p stop l h =
-          alike-turn (ltb p stop) (visit one (level one levels) parent (ups ++ (i ∷ [])) p stop)
-          (visit other (level other levels) parent (ups ++ (i ∷ [])) p stop)
-          (λ m. siblings one (level one levels) parent ups bound (suc i) (p + extent file p) stop m)
-          (λ m. siblings other (level other levels) parent ups bound (suc i) (p + extent file p) stop m) l
-          (grows-siblings one levels parent ups bound (suc i) (p + extent file p) stop)
-          (grows-siblings other levels parent ups bound (suc i) (p + extent file p) stop) h
+          alike-turn (ltb p stop) (visit left (level left levels) parent (ups ++ (i ∷ [])) p stop)
+          (visit right (level right levels) parent (ups ++ (i ∷ [])) p stop)
+          (λ m. siblings left (level left levels) parent ups bound (suc i) (p + extent file p) stop m)
+          (λ m. siblings right (level right levels) parent ups bound (suc i) (p + extent file p) stop m) l
+          (grows-siblings left levels parent ups bound (suc i) (p + extent file p) stop)
+          (grows-siblings right levels parent ups bound (suc i) (p + extent file p) stop) h
           (alike-visit parent (ups ++ (i ∷ [])) p stop l h)
           (alike-siblings parent ups bound (suc i) (p + extent file p) stop)
 
     pub alike-level : (levels parent : ℕ) (path : List ℕ) (from stop : ℕ) (l : List Entry) → P l
-        → R (level one levels parent path from stop l) (level other levels parent path from stop l)
+        → R (level left levels parent path from stop l) (level right levels parent path from stop l)
     unfolding level
     alike-level zero parent path from stop l h = a .stay l h
     alike-level (suc levels) parent path from stop l h =

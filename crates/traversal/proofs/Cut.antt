@@ -88,14 +88,14 @@ module _ (n : ℕ) where
   cuts-enter (Refused r) K K' l x g h k = sym (truncate-short n (refused r l) k)
 
 -- the traversal as far as the listing has words is the whole one truncated
-pub cuts-level : (a : Asked) (t : Targets) (levels parent : ℕ) (path : List ℕ) (from stop : ℕ) (l : List Entry) → length l ≤ a .lent .listing
-    → level (limited a t) levels parent path from stop l ≡ truncate (a .lent .listing) (level (endless a t) levels parent path from stop l)
+pub cuts-level : (a : Asked) (t : Targets) (levels parent : ℕ) (path : List ℕ) (from stop : ℕ) (l : List Entry) → length l ≤ a .lent .words
+    → level (limited a t) levels parent path from stop l ≡ truncate (a .lent .words) (level (endless a t) levels parent path from stop l)
 unfolding visitCheck
 cuts-level a t =
-    alike-level (a .file) t (a .lent) (a .lent) (λ l. true) (λ l. ltb (length l) (a .lent .listing)) (λ l. length l ≤ a .lent .listing)
-    (λ o o'. o' ≡ truncate (a .lent .listing) o)
+    alike-level (a .file) t (a .lent) (a .lent) (λ l. true) (λ l. ltb (length l) (a .lent .words)) (λ l. length l ≤ a .lent .words)
+    (λ o o'. o' ≡ truncate (a .lent .words) o)
     (record {
-      stay = λ l h. sym (truncate-short (a .lent .listing) (on l) h);
-      follow = λ o o' K K' g g' e k. ap (λ (x : Outcome). bind x K') e ∙ cuts-bind (a .lent .listing) o K K' g k;
-      entered = λ path p stop l e K K' g g' h k. cuts-enter (a .lent .listing) (visitCheck (endless a t) path p stop l) K K' l e g k h;
+      stay = λ l h. sym (truncate-short (a .lent .words) (on l) h);
+      follow = λ o o' K K' g g' e k. ap (λ (x : Outcome). bind x K') e ∙ cuts-bind (a .lent .words) o K K' g k;
+      entered = λ path p stop l e K K' g g' h k. cuts-enter (a .lent .words) (visitCheck (endless a t) path p stop l) K K' l e g k h;
     })

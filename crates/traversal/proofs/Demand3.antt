@@ -24,7 +24,7 @@ use Rattle.traversal.specs.declared.Walked.{Walked}
 use Rattle.traversal.specs.declared.Walked.the-variants.{Complete, Truncated, Refused}
 use Rattle.traversal.specs.Traversal.{Lengths, Asked, ask, Outcome, on, cut, refused, listOf, traversal}
 use Rattle.traversal.specs.Walk.{truncate, walkOf, walkedOf, numberListed, placeOf, listingWith, tableWith, tableAfter, Slices, askWith, Leaves, itself}
-use Rattle.traversal.specs.Demand3.{Call, number, list, trail, listed, In, OneWalk, WantsRoom, Final, Begins, TwoWalks, Demand3}
+use Rattle.traversal.specs.Demand3.{Call, listedNumber, listedWords, trail, listed, In, OneWalk, WantsRoom, Final, Begins, TwoWalks, Demand3}
 use Rattle.traversal.proofs.Begins.{begins-trans, begins-take, begins-cut}
 use Rattle.traversal.proofs.Cut.{truncate-short, truncate-long, list-truncate}
 use Rattle.traversal.proofs.Grows.{isCut, never-cut}
@@ -42,17 +42,17 @@ number-of (cut l) = refl
 number-of (refused r l) = refl
 
 -- a walk lists the first of the traversal's contexts, no more than it has room for
-pub lists-first : (a : Asked) → listOf (walkOf a) ≡ take (a .lent .listing) (listOf (traversal a))
+pub lists-first : (a : Asked) → listOf (walkOf a) ≡ take (a .lent .words) (listOf (traversal a))
 unfolding walkOf
-lists-first a = list-truncate (a .lent .listing) (traversal a)
+lists-first a = list-truncate (a .lent .words) (traversal a)
 
-pub fits-room : (a : Asked) → length (listOf (walkOf a)) ≤ a .lent .listing
-fits-room a = omega (arith, ap length (lists-first a), length-take (a .lent .listing) (listOf (traversal a)))
+pub fits-room : (a : Asked) → length (listOf (walkOf a)) ≤ a .lent .words
+fits-room a = omega (arith, ap length (lists-first a), length-take (a .lent .words) (listOf (traversal a)))
 
 -- with room for all, a walk is the traversal
-pub all-listed : (a : Asked) → length (listOf (traversal a)) ≤ a .lent .listing → walkOf a ≡ traversal a
+pub all-listed : (a : Asked) → length (listOf (traversal a)) ≤ a .lent .words → walkOf a ≡ traversal a
 unfolding walkOf
-all-listed a h = truncate-short (a .lent .listing) (traversal a) h
+all-listed a h = truncate-short (a .lent .words) (traversal a) h
 
 -- ---- one walk
 
@@ -87,8 +87,8 @@ module _ {file : List ℕ} (c : Call file) where
   abbrev room : ℕ
   room = length (c .was .listing)
 
-  counted : number c ≡ length (listOf (walkOf a))
-  counted = ap numberListed (c .leaves .answers) ∙ number-of (walkOf a)
+  counted : listedNumber c ≡ length (listOf (walkOf a))
+  counted = ap numberListed (c .promised .answers) ∙ number-of (walkOf a)
 
   same-listed : listOf (walkOf a) ≡ listed c
   same-listed =
@@ -101,31 +101,31 @@ module _ {file : List ℕ} (c : Call file) where
   unfolding listingWith
   written =
       let none : 0 + length places ≡ length places = omega arith in
-      c .leaves .lists ∙ over-eq (c .was .listing) 0 places (omega (arith, length-map (listOf (walkOf a)) placeOf, fits-room a))
+      c .promised .lists ∙ over-eq (c .was .listing) 0 places (omega (arith, length-map (listOf (walkOf a)) placeOf, fits-room a))
       ∙ ap (λ (n : ℕ). places ++ drop n (c .was .listing)) none
 
-  many : length places ≡ number c
+  many : length places ≡ listedNumber c
   many = length-map (listOf (walkOf a)) placeOf ∙ sym counted
 
-  listed-places : list c ≡ map placeOf (listed c)
+  listed-places : listedWords c ≡ map placeOf (listed c)
   listed-places =
-      ap (take (number c)) written ∙ take-at places (drop (length places) (c .was .listing)) (number c) many ∙ ap (map placeOf) same-listed
+      ap (take (listedNumber c)) written ∙ take-at places (drop (length places) (c .was .listing)) (listedNumber c) many ∙ ap (map placeOf) same-listed
 
-  untouched : drop (number c) (c .now .listing) ≡ drop (number c) (c .was .listing)
+  untouched : drop (listedNumber c) (c .now .listing) ≡ drop (listedNumber c) (c .was .listing)
   untouched =
-      ap (drop (number c)) written ∙ drop-at places (drop (length places) (c .was .listing)) (number c) many
+      ap (drop (listedNumber c)) written ∙ drop-at places (drop (length places) (c .was .listing)) (listedNumber c) many
       ∙ ap (λ (n : ℕ). drop n (c .was .listing)) many
 
   short-end : length (trail c) ≤ room → c .answer ≡ walkedOf (traversal a)
-  short-end h = c .leaves .answers ∙ ap walkedOf (all-listed a h)
+  short-end h = c .promised .answers ∙ ap walkedOf (all-listed a h)
 
-  cut-says : room < length (trail c) → c .answer ≡ Truncated (number c)
+  cut-says : room < length (trail c) → c .answer ≡ Truncated (listedNumber c)
   unfolding walkOf
   cut-says h =
       let long : walkOf a ≡ cut (take room (trail c)) = truncate-long room (traversal a) h in
-      c .leaves .answers ∙ ap walkedOf long ∙ walked-cut (take room (trail c)) ∙ ap Truncated (sym (counted ∙ ap (λ (o : Outcome). length (listOf o)) long))
+      c .promised .answers ∙ ap walkedOf long ∙ walked-cut (take room (trail c)) ∙ ap Truncated (sym (counted ∙ ap (λ (o : Outcome). length (listOf o)) long))
 
-  says-long : c .answer ≡ Truncated (number c) → room < length (trail c)
+  says-long : c .answer ≡ Truncated (listedNumber c) → room < length (trail c)
   says-long e = go (leb (length (trail c)) room) refl
     where
       go : (b : Bool) → leb (length (trail c)) room ≡ b → room < length (trail c)
@@ -138,21 +138,21 @@ module _ {file : List ℕ} (c : Call file) where
 
   filled : opening meta file ≡ Check.Passed → c .now .table ≡ tableWith (listed c) (length (c .was .table))
   unfolding tableAfter onOpened ifPassed
-  filled h = c .leaves .fills ∙ rw h (ap (λ (l : List Entry). tableWith l (length (c .was .table))) same-listed)
+  filled h = c .promised .fills ∙ rw h (ap (λ (l : List Entry). tableWith l (length (c .was .table))) same-listed)
 
   module _ (e : Entry) (h : In e (listed c)) where
     -- the context on the trail, with all after it
-    on-trail : trail c ≡ h .0 ++ (e ∷ (h .1 ++ drop (number c) (trail c)))
+    on-trail : trail c ≡ h .0 ++ (e ∷ (h .1 ++ drop (listedNumber c) (trail c)))
     on-trail =
-        sym (take-append-drop (number c) (trail c)) ∙ ap (λ (l : List Entry). l ++ drop (number c) (trail c)) (h .2)
-        ∙ append-assoc (h .0) (e ∷ h .1) (drop (number c) (trail c))
+        sym (take-append-drop (listedNumber c) (trail c)) ∙ ap (λ (l : List Entry). l ++ drop (listedNumber c) (trail c)) (h .2)
+        ∙ append-assoc (h .0) (e ∷ h .1) (drop (listedNumber c) (trail c))
 
     apart : All (Differs (e .ctxId)) (map idOf (h .1))
     apart =
-        let later = later-differ (h .0) (h .1 ++ drop (number c) (trail c)) e
+        let later = later-differ (h .0) (h .1 ++ drop (listedNumber c) (trail c)) e
         (subst (λ (l : List Entry). Distinct (map idOf l)) on-trail (traversal-ids a .distinct)) in
-        all-left (Differs (e .ctxId)) (map idOf (h .1)) (map idOf (drop (number c) (trail c)))
-        (subst (All (Differs (e .ctxId))) (map-append idOf (h .1) (drop (number c) (trail c))) later)
+        all-left (Differs (e .ctxId)) (map idOf (h .1)) (map idOf (drop (listedNumber c) (trail c)))
+        (subst (All (Differs (e .ctxId))) (map-append idOf (h .1) (drop (listedNumber c) (trail c))) later)
 
     inside : e .ctxId < length (c .was .table)
     inside = has (h .0) _ (subst (λ (l : List Entry). Below (length (c .was .table)) (map idOf l)) on-trail (traversal-ids a .below))
@@ -176,7 +176,7 @@ module _ {file : List ℕ} (c : Call file) where
 
   same-slots : length (c .now .table) ≡ length (c .was .table)
   unfolding tableAfter onOpened ifPassed
-  same-slots = ap length (c .leaves .fills) ∙ go (opening meta file)
+  same-slots = ap length (c .promised .fills) ∙ go (opening meta file)
     where
       go : (v : Check) → length (ifPassed (λ r. c .was .table) v (tableWith (listOf (walkOf a)) (length (c .was .table)))) ≡ length (c .was .table)
       go Check.Passed = length-table (listOf (walkOf a)) (length (c .was .table))
@@ -187,9 +187,9 @@ module _ {file : List ℕ} (c : Call file) where
   unfolding walkOf traversal tableAfter onOpened ifPassed walkedOf listingWith
   nothing-changed r e =
       let none : walkOf a ≡ refused r [] = rw e (truncate-short room (refused r []) (omega arith)) in (
-        c .leaves .answers ∙ ap walkedOf none,
-        c .leaves .lists ∙ rw none (over-none (c .was .listing) 0),
-        c .leaves .fills ∙ rw e,
+        c .promised .answers ∙ ap walkedOf none,
+        c .promised .lists ∙ rw none (over-none (c .was .listing) 0),
+        c .promised .fills ∙ rw e,
       )
 
   of-one : OneWalk c
@@ -197,12 +197,12 @@ module _ {file : List ℕ} (c : Call file) where
     smaller = counted ∙ ap length (lists-first a) ∙ length-take room (trail c) ∙ min-comm room (length (trail c));
     from-first = listed-places;
     beyond = untouched;
-    cut = (says-long, cut-says);
-    end = short-end;
+    says-cut = (says-long, cut-says);
+    gives-end = short-end;
     slot = λ p e h. slot-of e h p;
     no-slot = λ p i f. empty-slot i p f;
     slots = same-slots;
-    refused = nothing-changed;
+    not-opened = nothing-changed;
   }
 
 -- ---- two outcomes, and two walks
@@ -234,7 +234,7 @@ module _ (n n' : ℕ) (o o' : Outcome) (le : n ≤ n') (w : Wider o o') where
       go false e = rw (truncate-long n o (leb-false (length (listOf o)) n e)) (λ f. absurd (final-cut (take n (listOf o)) f))
 
 -- over entries with all their fields, and so over every record that is handed out
-module _ (file : List ℕ) (n n' : Lengths) (h : n .listing ≤ n' .listing) (k : n .table ≤ n' .table) where
+module _ (file : List ℕ) (n n' : Lengths) (h : n .words ≤ n' .words) (k : n .slots ≤ n' .slots) where
   abbrev less : Asked
   less = ask file n
 
@@ -243,11 +243,11 @@ module _ (file : List ℕ) (n n' : Lengths) (h : n .listing ≤ n' .listing) (k 
 
   pub entries-begin : Begins (listOf (walkOf less)) (listOf (walkOf more))
   unfolding walkOf
-  entries-begin = more-begins (n .listing) (n' .listing) (traversal less) (traversal more) h (wider-traversal file n n' k)
+  entries-begin = more-begins (n .words) (n' .words) (traversal less) (traversal more) h (wider-traversal file n n' k)
 
   pub entries-same : Final (walkedOf (walkOf less)) → walkOf more ≡ walkOf less
   unfolding walkOf
-  entries-same = more-same (n .listing) (n' .listing) (traversal less) (traversal more) h (wider-traversal file n n' k)
+  entries-same = more-same (n .words) (n' .words) (traversal less) (traversal more) h (wider-traversal file n n' k)
 
 begins-map : (f : Entry → ℕ) (x y : List Entry) → Begins x y → Begins (map f x) (map f y)
 begins-map f x y h = (map f (h .0), ap (map f) (h .1) ∙ map-append f x (h .0))
@@ -255,9 +255,9 @@ begins-map f x y h = (map f (h .0), ap (map f) (h .1) ∙ map-append f x (h .0))
 module _ {file : List ℕ} (old new : Call file) (h : length (old .was .listing) ≤ length (new .was .listing))
     (k : length (old .was .table) ≤ length (new .was .table)) where
   same : Final (old .answer) → walkOf (a new) ≡ walkOf (a old)
-  same f = entries-same file (a old .lent) (a new .lent) h k (subst Final (old .leaves .answers) f)
+  same f = entries-same file (a old .lent) (a new .lent) h k (subst Final (old .promised .answers) f)
 
-  places-of : (c : Call file) → list c ≡ map placeOf (listOf (walkOf (a c)))
+  places-of : (c : Call file) → listedWords c ≡ map placeOf (listOf (walkOf (a c)))
   places-of c = listed-places c ∙ ap (map placeOf) (sym (same-listed c))
 
   of-two : TwoWalks old new
@@ -265,7 +265,7 @@ module _ {file : List ℕ} (old new : Call file) (h : length (old .was .listing)
     begins = rw (places-of old, places-of new)
         (begins-map placeOf (listOf (walkOf (a old))) (listOf (walkOf (a new))) (entries-begin file (a old .lent) (a new .lent) h k));
     same-list = λ f. places-of new ∙ ap (λ (o : Outcome). map placeOf (listOf o)) (same f) ∙ sym (places-of old);
-    same-end = λ f. new .leaves .answers ∙ ap walkedOf (same f) ∙ sym (old .leaves .answers);
+    same-end = λ f. new .promised .answers ∙ ap walkedOf (same f) ∙ sym (old .promised .answers);
   }
 
 pub demand3 : Demand3
@@ -279,7 +279,7 @@ demand3 = record {
 
 pub said-as : {A : Type 0} {say : Walked → A} {file : List ℕ} {was now : Slices} {w : Walked} {answer : A} → Leaves itself file was w now
     → answer ≡ say w → Leaves say file was answer now
-said-as {say = say} l e = record { answers = e ∙ ap say (l .answers); lists = l .lists; fills = l .fills; records = l .records }
+said-as {say = say} l e = record { answers = e ∙ ap say (l .answers); lists = l .lists; fills = l .fills; recorded = l .recorded }
 
 -- such a walk is a call too
 
@@ -290,7 +290,7 @@ call-in-words say file was answer now l = (
     was = was;
     answer = walkedOf (walkOf (askWith file was));
     now = now;
-    leaves = record { answers = refl; lists = l .lists; fills = l .fills; records = l .records };
+    promised = record { answers = refl; lists = l .lists; fills = l .fills; recorded = l .recorded };
   },
   l .answers,
   refl,

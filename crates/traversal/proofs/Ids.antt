@@ -23,7 +23,7 @@ use Rattle.traversal.proofs.Table.{idOf}
 -- what a visit that passes has passed
 pub record Fits (E : Parameters) (path : List ℕ) (p : ℕ) (l : List Entry) : Type 0 where
   pub deep : length path ≤ depthLimit
-  pub slot : field (E .asked .file) p ctxId < E .asked .lent .table
+  pub slot : field (E .asked .file) p ctxId < E .asked .lent .slots
   pub fresh : seen (field (E .asked .file) p ctxId) l ≡ false
 
 pub passed-fits : (E : Parameters) (path : List ℕ) (p stop : ℕ) (l : List Entry) → visitCheck E path p stop l ≡ Passed → Fits E path p l
@@ -34,10 +34,10 @@ passed-fits E path p stop l h =
     let children = first-passes (rule (linksRule (E .targets) (E .asked .file) p) No.Link) _ .0 links .1 in
     let slots = first-passes (rule (childrenRule (E .targets) (E .asked .file) p) No.Array) _ .0 children .1 in
     let deep = first-passes (rule (leb (length path) depthLimit) No.Deep) _ .0 slots in
-    let slot = first-passes (rule (ltb id (E .asked .lent .table)) No.Slot) _ .0 (deep .1) in
+    let slot = first-passes (rule (ltb id (E .asked .lent .slots)) No.Slot) _ .0 (deep .1) in
     record {
       deep = leb-true _ _ (rule-passes (leb (length path) depthLimit) No.Deep .0 (deep .0));
-      slot = ltb-true _ _ (rule-passes (ltb id (E .asked .lent .table)) No.Slot .0 (slot .0));
+      slot = ltb-true _ _ (rule-passes (ltb id (E .asked .lent .slots)) No.Slot .0 (slot .0));
       fresh = not-true _ (rule-passes (not (seen id l)) No.Twice .0 (slot .1));
     }
 
@@ -57,7 +57,7 @@ pub record Ids (slots : ℕ) (l : List Entry) : Type 0 where
   pub below : Below slots (map idOf l)
 
 ids-enter : (E : Parameters) (parent : ℕ) (path : List ℕ) (p stop : ℕ) (l : List Entry) → visitCheck E path p stop l ≡ Passed
-    → Ids (E .asked .lent .table) l → Ids (E .asked .lent .table) (snoc l (entryAt (E .asked .file) parent path p))
+    → Ids (E .asked .lent .slots) l → Ids (E .asked .lent .slots) (snoc l (entryAt (E .asked .file) parent path p))
 unfolding entryAt
 ids-enter E parent path p stop l v h =
     let fits = passed-fits E path p stop l v in
@@ -66,11 +66,11 @@ ids-enter E parent path p stop l v h =
     let ids : map idOf (snoc l e) ≡ snoc (map idOf l) id = map-append idOf l (e ∷ []) in
     record {
       distinct = rw ids (ordered-snoc Differs (map idOf l) id (h .distinct) (all-imp (λ x d k. d (sym k)) (map idOf l) (unseen id l (fits .fresh))));
-      below = rw ids (all-append (λ x. x < E .asked .lent .table) (map idOf l) (id ∷ []) (h .below) (fits .slot, tt));
+      below = rw ids (all-append (λ x. x < E .asked .lent .slots) (map idOf l) (id ∷ []) (h .below) (fits .slot, tt));
     }
 
-pub traversal-ids : (a : Asked) → Ids (a .lent .table) (listOf (traversal a))
+pub traversal-ids : (a : Asked) → Ids (a .lent .slots) (listOf (traversal a))
 traversal-ids a =
-    somewhere _ _ [] (traversal a) (keeps-traversal a (λ ups i l. Ids (a .lent .table) l)
+    somewhere _ _ [] (traversal a) (keeps-traversal a (λ ups i l. Ids (a .lent .slots) l)
     (record { enters = λ parent ups i p stop l v h. ids-enter _ parent (snoc ups i) p stop l v h; leaves = λ ups i j l h. h })
     (record { distinct = tt; below = tt })) .1 .1

@@ -1,6 +1,6 @@
 -- The trail is one for a file and a table's length: how long the listing is does not count.
 use Prim.Native.Nat.{ℕ}
-use mathlib.Core.Bool.{Bool, true}
+use mathlib.Core.Bool.{true}
 use mathlib.Core.List.{List, [], _∷_, _++_}
 use mathlib.Core.Path.{_≡_, refl, ap, _∙_}
 use Rattle.refusal.specs.declared.Check.{Check}
@@ -12,7 +12,7 @@ use Rattle.context.specs.Context.{Targets, targetsOf}
 use Rattle.context.specs.Entry.{Entry}
 use Rattle.traversal.specs.Traversal.{Lengths, ask, Outcome, refused, endless, visitCheck, enter, bind, level, fromRoots, traversal}
 use Rattle.traversal.proofs.Steps.{same-bind}
-use Rattle.traversal.proofs.Alike.{one, other, alike-level}
+use Rattle.traversal.proofs.Alike.{always, left, right, alike-level}
 
 same-enter : (v : Check) (K K' : List Entry → Outcome) (l : List Entry) (x : Entry) → K (l ++ (x ∷ [])) ≡ K' (l ++ (x ∷ []))
     → enter v true K l x ≡ enter v true K' l x
@@ -20,19 +20,16 @@ unfolding enter
 same-enter Passed K K' l x h = h
 same-enter (Refused r) K K' l x h = refl
 
-module _ (file : List ℕ) (t : Targets) (n n' : Lengths) (e : n .table ≡ n' .table) where
-  abbrev all : List Entry → Bool
-  all l = true
-
+module _ (file : List ℕ) (t : Targets) (n n' : Lengths) (e : n .slots ≡ n' .slots) where
   same-check : (path : List ℕ) (p stop : ℕ) (l : List Entry)
-      → visitCheck (one file t n n' all all) path p stop l ≡ visitCheck (other file t n n' all all) path p stop l
+      → visitCheck (left file t n n' always always) path p stop l ≡ visitCheck (right file t n n' always always) path p stop l
   unfolding visitCheck
   same-check path p stop l = rw e
 
   same-level : (levels parent : ℕ) (path : List ℕ) (from stop : ℕ) (l : List Entry)
-      → level (one file t n n' all all) levels parent path from stop l ≡ level (other file t n n' all all) levels parent path from stop l
+      → level (left file t n n' always always) levels parent path from stop l ≡ level (right file t n n' always always) levels parent path from stop l
   same-level levels parent path from stop l =
-      alike-level file t n n' all all (λ l. Unit {0}) (λ o o'. o ≡ o')
+      alike-level file t n n' always always (λ l. Unit {0}) (λ o o'. o ≡ o')
       (record {
         stay = λ l h. refl;
         follow = λ o o' K K' g g' q k. ap (λ (x : Outcome). bind x K) q ∙ same-bind o' K K' (λ l. k l tt);
@@ -40,7 +37,7 @@ module _ (file : List ℕ) (t : Targets) (n n' : Lengths) (e : n .table ≡ n' .
             ap (λ (v : Check). enter v true K l x) (same-check path p stop l) ∙ same-enter _ K K' l x (k (l ++ (x ∷ [])) tt);
       }) levels parent path from stop l tt
 
-pub trail-same : (file : List ℕ) (n n' : Lengths) → n .table ≡ n' .table → traversal (ask file n) ≡ traversal (ask file n')
+pub trail-same : (file : List ℕ) (n n' : Lengths) → n .slots ≡ n' .slots → traversal (ask file n) ≡ traversal (ask file n')
 unfolding traversal onOpened fromRoots ifPassed
 trail-same file n n' e = go (opening meta file)
   where

@@ -21,7 +21,7 @@ use Rattle.traversal.specs.Demand3.{Begins, WantsRoom}
 use Rattle.traversal.specs.Traversal.{Lengths, ask, Outcome, on, cut, refused, listOf, endless, seen, slotCheck, visitCheck, enter, bind, level, depthLimit, fromRoots, traversal}
 use Rattle.traversal.proofs.Begins.{begins-refl, begins-trans, begins-snoc}
 use Rattle.traversal.proofs.Grows.{Grows, grows-bind}
-use Rattle.traversal.proofs.Alike.{one, other, alike-level}
+use Rattle.traversal.proofs.Alike.{always, left, right, alike-level}
 
 -- ---- checks that more room changes only where room is wanting
 
@@ -70,12 +70,9 @@ module _ (K K' : List Entry → Outcome) (l : List Entry) (x : Entry) (g : Grows
       go (Refused r) = inl refl
   wider-enter v v' k (inr s) = inr (s .0, l, s .1 .0, rw (s .1 .1), grows-enter v')
 
-module _ (file : List ℕ) (t : Targets) (n n' : Lengths) (le : n .table ≤ n' .table) where
-  abbrev all : List Entry → Bool
-  all l = true
-
+module _ (file : List ℕ) (t : Targets) (n n' : Lengths) (le : n .slots ≤ n' .slots) where
   same-check : (path : List ℕ) (p stop : ℕ) (l : List Entry)
-      → Same (visitCheck (one file t n n' all all) path p stop l) (visitCheck (other file t n n' all all) path p stop l)
+      → Same (visitCheck (left file t n n' always always) path p stop l) (visitCheck (right file t n n' always always) path p stop l)
   unfolding visitCheck slotCheck
   same-check path p stop l =
       let id = field file p ctxId in
@@ -83,13 +80,13 @@ module _ (file : List ℕ) (t : Targets) (n n' : Lengths) (le : n .table ≤ n' 
       (same-first (rule (linksRule t file p) No.Link) _ _
       (same-first (rule (childrenRule t file p) No.Array) _ _
       (same-first (rule (leb (length path) depthLimit) No.Deep) _ _
-      (same-slot (ltb id (n .table)) (ltb id (n' .table)) (rule (not (seen id l)) No.Twice)
-      (λ e. lt-ltb id (n' .table) (omega (arith, ltb-true id (n .table) e)))))))
+      (same-slot (ltb id (n .slots)) (ltb id (n' .slots)) (rule (not (seen id l)) No.Twice)
+      (λ e. lt-ltb id (n' .slots) (omega (arith, ltb-true id (n .slots) e)))))))
 
   wider-level : (levels parent : ℕ) (path : List ℕ) (from stop : ℕ) (l : List Entry)
-      → Wider (level (one file t n n' all all) levels parent path from stop l) (level (other file t n n' all all) levels parent path from stop l)
+      → Wider (level (left file t n n' always always) levels parent path from stop l) (level (right file t n n' always always) levels parent path from stop l)
   wider-level levels parent path from stop l =
-      alike-level file t n n' all all (λ l. Unit {0}) Wider
+      alike-level file t n n' always always (λ l. Unit {0}) Wider
       (record {
         stay = λ l h. inl refl;
         follow = λ o o' K K' g g' w k. wider-bind o o' K K' g' w (λ l. k l tt);
@@ -97,7 +94,7 @@ module _ (file : List ℕ) (t : Targets) (n n' : Lengths) (le : n .table ≤ n' 
       }) levels parent path from stop l tt
 
 -- with a table at least as long
-pub wider-traversal : (file : List ℕ) (n n' : Lengths) → n .table ≤ n' .table
+pub wider-traversal : (file : List ℕ) (n n' : Lengths) → n .slots ≤ n' .slots
     → Wider (traversal (ask file n)) (traversal (ask file n'))
 unfolding traversal onOpened fromRoots ifPassed
 wider-traversal file n n' le = go (opening meta file)

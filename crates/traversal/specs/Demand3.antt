@@ -20,22 +20,22 @@ pub record Call (file : List ℕ) : Type 0 where
   pub was : Slices
   pub answer : Walked
   pub now : Slices
-  pub leaves : Leaves itself file was answer now
+  pub promised : Leaves itself file was answer now
 
 module _ {file : List ℕ} (c : Call file) where
-  abbrev pub number : ℕ
-  number = numberListed (c .answer)
+  abbrev pub listedNumber : ℕ
+  listedNumber = numberListed (c .answer)
 
   -- its list: that many words from the listing's start
-  abbrev pub list : List ℕ
-  list = take number (c .now .listing)
+  abbrev pub listedWords : List ℕ
+  listedWords = take listedNumber (c .now .listing)
 
   -- the contexts on the trail, and those of them that are listed
   abbrev pub trail : List Entry
   trail = listOf (traversal (askWith file (c .was)))
 
   abbrev pub listed : List Entry
-  listed = take number trail
+  listed = take listedNumber trail
 
 -- ---- of one walk
 
@@ -45,21 +45,21 @@ In {A = A} x l = (a : List A) × (b : List A) × (l ≡ a ++ (x ∷ b))
 
 pub record OneWalk {file : List ℕ} (c : Call file) : Type 0 where
   -- "Its number listed is the smaller of two counts, the contexts on the trail and the words of the listing."
-  pub smaller : number c ≡ min (length (trail c)) (length (c .was .listing))
+  pub smaller : listedNumber c ≡ min (length (trail c)) (length (c .was .listing))
   -- "a walk lists the trail's contexts from the first on, as far as its listing has words"
-  pub from-first : list c ≡ map placeOf (listed c)
+  pub from-first : listedWords c ≡ map placeOf (listed c)
   -- "words beyond are untouched"
-  pub beyond : drop (number c) (c .now .listing) ≡ drop (number c) (c .was .listing)
+  pub beyond : drop (listedNumber c) (c .now .listing) ≡ drop (listedNumber c) (c .was .listing)
   -- "It says cut exactly when the trail has more contexts than the listing has words"
-  pub cut : (c .answer ≡ Truncated (number c)) ↔ (length (c .was .listing) < length (trail c))
+  pub says-cut : (c .answer ≡ Truncated (listedNumber c)) ↔ (length (c .was .listing) < length (trail c))
   -- "otherwise it gives the trail's end"
-  pub end : length (trail c) ≤ length (c .was .listing) → c .answer ≡ walkedOf (traversal (askWith file (c .was)))
+  pub gives-end : length (trail c) ≤ length (c .was .listing) → c .answer ≡ walkedOf (traversal (askWith file (c .was)))
   -- "The table is 0 except that slot ctxId of each listed context holds its place."
   pub slot : opening meta file ≡ Check.Passed → (e : Entry) → In e (listed c) → getD (c .now .table) (e .ctxId) 0 ≡ e .place
   pub no-slot : opening meta file ≡ Check.Passed → (i : ℕ) → ((e : Entry) → In e (listed c) → e .ctxId ≡ i → ⊥) → getD (c .now .table) i 0 ≡ 0
   pub slots : length (c .now .table) ≡ length (c .was .table)
   -- "If opening refuses, 0 are listed and neither slice changes."
-  pub refused : (r : Refusal) → opening meta file ≡ Check.Refused r
+  pub not-opened : (r : Refusal) → opening meta file ≡ Check.Refused r
       → (c .answer ≡ Refused r 0) × (c .now .listing ≡ c .was .listing) × (c .now .table ≡ c .was .table)
 
 -- ---- of two
@@ -80,9 +80,9 @@ Begins {A = A} a b = (c : List A) × (b ≡ a ++ c)
 
 pub record TwoWalks {file : List ℕ} (old new : Call file) : Type 0 where
   -- "the old list is the beginning of the new one"
-  pub begins : Begins (list old) (list new)
+  pub begins : Begins (listedWords old) (listedWords new)
   -- "the new one has the same list and the same end"
-  pub same-list : Final (old .answer) → list new ≡ list old
+  pub same-list : Final (old .answer) → listedWords new ≡ listedWords old
   pub same-end : Final (old .answer) → new .answer ≡ old .answer
 
 -- ---- of any

@@ -18,8 +18,8 @@ use Rattle.context.specs.Entry.{Entry, entryAt}
 
 -- the lengths of what is lent: words of the listing, slots of the table
 pub record Lengths : Type 0 where
-  pub listing : ℕ
-  pub table : ℕ
+  pub words : ℕ
+  pub slots : ℕ
 
 -- what a walk is asked with
 pub record Asked : Type 0 where
@@ -55,7 +55,7 @@ abbrev pub endless : Asked → Targets → Parameters
 endless a t = parameters a t (λ l. true)
 
 abbrev pub limited : Asked → Targets → Parameters
-limited a t = parameters a t (λ l. ltb (length l) (a .lent .listing))
+limited a t = parameters a t (λ l. ltb (length l) (a .lent .words))
 
 -- ---- one context
 
@@ -78,7 +78,7 @@ visitCheck E path p stop l =
     first (rule (contextRule (E .asked .file) p stop) No.Context)
     (first (rule (linksRule (E .targets) (E .asked .file) p) No.Link)
     (first (rule (childrenRule (E .targets) (E .asked .file) p) No.Array)
-    (slotCheck (length path) (field (E .asked .file) p ctxId) (E .asked .lent .table) (seen (field (E .asked .file) p ctxId) l))))
+    (slotCheck (length path) (field (E .asked .file) p ctxId) (E .asked .lent .slots) (seen (field (E .asked .file) p ctxId) l))))
 
 -- a visit by its check, and by whether there is room: with the context listed, into its children
 unfoldable pub enter : Check → (room : Bool) → (into : List Entry → Outcome) → List Entry → Entry → Outcome

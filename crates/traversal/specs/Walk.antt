@@ -19,7 +19,7 @@ unfoldable pub truncate : (n : ℕ) → Outcome → Outcome
 truncate n o = either (leb (length (listOf o)) n) o (cut (take n (listOf o)))
 
 unfoldable pub walkOf : Asked → Outcome
-walkOf a = truncate (a .lent .listing) (traversal a)
+walkOf a = truncate (a .lent .words) (traversal a)
 
 -- ---- its answer
 
@@ -81,14 +81,14 @@ slices listing table records = record { listing = listing; table = table; record
 
 -- what it is asked with
 abbrev pub askWith : (file : List ℕ) → Slices → Asked
-askWith file s = ask file (record { listing = length (s .listing); table = length (s .table) })
+askWith file s = ask file (record { words = length (s .listing); slots = length (s .table) })
 
 -- what it leaves: its answer, as `say` puts it, and the slices
 pub record Leaves {A : Type 0} (say : Walked → A) (file : List ℕ) (was : Slices) (answer : A) (now : Slices) : Type 0 where
   pub answers : answer ≡ say (walkedOf (walkOf (askWith file was)))
   pub lists : now .listing ≡ listingWith (listOf (walkOf (askWith file was))) (was .listing)
   pub fills : now .table ≡ tableAfter file (walkOf (askWith file was)) (was .table)
-  pub records : now .records ≡ recordsWith (listOf (walkOf (askWith file was))) (was .records)
+  pub recorded : now .records ≡ recordsWith (listOf (walkOf (askWith file was))) (was .records)
 
 -- by the answer itself
 abbrev pub itself : Walked → Walked

@@ -30,7 +30,7 @@ use Rattle.walk.proofs.Going.{done-complete}
 pub no-records : {file : List ℕ} {listing table listing' table' none none' : List ℕ} {r : Walked}
     → Leaves itself file (slices listing table none) r (slices listing' table' none') → Leaves itself file (slices listing table []) r (slices listing' table' [])
 unfolding recordsWith wordsOf
-no-records l = record { answers = l .answers; lists = l .lists; fills = l .fills; records = sym (over-none [] 0) }
+no-records l = record { answers = l .answers; lists = l .lists; fills = l .fills; recorded = sym (over-none [] 0) }
 
 module _ (file : List ℕ) (was : Slices) where
   abbrev a : Asked
@@ -42,7 +42,7 @@ module _ (file : List ℕ) (was : Slices) where
   untouched r e =
       let none : walkOf a ≡ refused r [] = rw e (truncate-short (length (was .listing)) (refused r []) (omega arith)) in
       let h = start was (replicate (length (was .table)) 0) refl in
-      record { answers = rw none; lists = rw none (h .listed); fills = rw e; records = rw none (h .recorded) }
+      record { answers = rw none; lists = rw none (h .listed); fills = rw e; recorded = rw none (h .recorded) }
 
   module _ {ps : List (List ℕ)} (o : Sections meta file ps) (t : Targets) (et : t ≡ targetsOf file ps)
       (place bytes : ℕ) (ep : place ≡ number 8 file (placeIn ps Section.context + 8)) (eb : bytes ≡ number 8 file (placeIn ps Section.context + 0)) where
@@ -66,7 +66,7 @@ module _ (file : List ℕ) (was : Slices) where
       answers = rw walk-is (d .says);
       lists = rw walk-is (d .holds .listed);
       fills = rw (o .passed, walk-is) (d .holds .filled);
-      records = rw walk-is (d .holds .recorded);
+      recorded = rw walk-is (d .holds .recorded);
     }
 
     module _ (cleared : List ℕ) (ec : cleared ≡ replicate (length (was .table)) 0) where
