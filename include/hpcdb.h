@@ -27,9 +27,9 @@
 /* The version of the library, which is not that of the format. The second number rises with a change of a declaration here, or of what a
  * code is given for. */
 #define HPCDB_VERSION_MAJOR 0
-#define HPCDB_VERSION_MINOR 2
+#define HPCDB_VERSION_MINOR 3
 #define HPCDB_VERSION_PATCH 0
-#define HPCDB_LIBRARY_VERSION "0.2.0"
+#define HPCDB_LIBRARY_VERSION "0.3.0"
 
 #ifdef __cplusplus
 extern "C" {
@@ -49,7 +49,7 @@ enum hpcdb_code {
     HPCDB_LINK = 9,        /* a link that leads to no element; a function whose name, module and file are all 0; a context's link that is
                             * present and 0 */
     HPCDB_CONTEXT = 10,    /* a context that does not fit, or has too few flex words */
-    HPCDB_ORDER = 11,      /* a start or order rule is broken */
+    HPCDB_ORDER = 11,      /* a start or order rule of a block is broken; a timestamp of a trace line falls */
     HPCDB_DEEP = 12,       /* a context at depth 201; roots have depth 1 */
     HPCDB_SLOT = 13,       /* a ctxId not below the table's length */
     HPCDB_TWICE = 14,      /* a ctxId that was met before */
@@ -261,7 +261,10 @@ enum hpcdb_totals {
 };
 uint32_t hpcdb_cct_totals(const uint8_t *file, size_t file_length, uint64_t context, uint64_t metric, uint64_t out[6]);
 
-/* ---- trace.db */
+/* ---- trace.db
+ *
+ * The timestamps of a line may repeat; they may not fall. A line that keeps its range rule and in which one falls is refused by ORDER,
+ * whatever is asked of it. */
 
 /* out: place and size of the section. */
 uint32_t hpcdb_trace_sections(const uint8_t *file, size_t file_length, uint64_t out[2]);
@@ -275,7 +278,8 @@ uint32_t hpcdb_trace_line(const uint8_t *file, size_t file_length, uint64_t i, u
 /* Sample k of line i. out: timestamp, ctxId. INDEX, ARRAY, ORDER. */
 uint32_t hpcdb_trace_sample(const uint8_t *file, size_t file_length, uint64_t i, uint64_t k, uint64_t out[2]);
 
-/* The last sample of line i that is not later than a time. INDEX, ARRAY, ORDER, ABSENT. */
+/* The last sample of line i that is not later than a time: of several with the same timestamp, the one at the highest position. INDEX,
+ * ARRAY, ORDER, ABSENT. */
 enum hpcdb_sample {
     HPCDB_SAMPLE_POSITION,
     HPCDB_SAMPLE_TIME,

@@ -162,6 +162,24 @@ static void tuples_and_lines(void)
     CODE("an empty line", hpcdb_trace_at(file, length, 1, UINT64_MAX, out), 3, HPCDB_ABSENT);
 }
 
+/* Times 10, 10, 20; 10, 20, 19; the greatest twice; 1,000 equal ones. */
+static void repeated_times(void)
+{
+    load("crates/record_cases/data/t-repeat.db");
+    WORDS("three samples", hpcdb_trace_line(file, length, 0, out), 2, 100, 3);
+    CODE("before both", hpcdb_trace_at(file, length, 0, 9, out), 3, HPCDB_ABSENT);
+    WORDS("the second of both", hpcdb_trace_at(file, length, 0, 10, out), 3, 1, 10, 2);
+    WORDS("just before the third", hpcdb_trace_at(file, length, 0, 19, out), 3, 1, 10, 2);
+    WORDS("the first of both", hpcdb_trace_sample(file, length, 0, 0, out), 2, 10, 1);
+    CODE("a fall", hpcdb_trace_line(file, length, 1, out), 2, HPCDB_ORDER);
+    CODE("a sample before it", hpcdb_trace_sample(file, length, 1, 0, out), 2, HPCDB_ORDER);
+    CODE("no such sample", hpcdb_trace_sample(file, length, 1, 3, out), 2, HPCDB_ORDER);
+    CODE("a time before it", hpcdb_trace_at(file, length, 1, 5, out), 3, HPCDB_ORDER);
+    WORDS("the greatest", hpcdb_trace_at(file, length, 2, UINT64_MAX, out), 3, 1, UINT64_MAX, 5);
+    WORDS("of 1,000", hpcdb_trace_at(file, length, 3, 1000000000000000000, out), 3, 999, 1000000000000000000, 999);
+    CODE("one below", hpcdb_trace_at(file, length, 3, 999999999999999999, out), 3, HPCDB_ABSENT);
+}
+
 /* A pointer for length 0 may be null. */
 static void nothing(void)
 {
@@ -208,6 +226,7 @@ int main(void)
     names();
     values();
     tuples_and_lines();
+    repeated_times();
     nothing();
     if (failures)
         printf("%d of %d checks failed\n", failures, checks);

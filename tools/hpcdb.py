@@ -443,7 +443,7 @@ def samples_of(file, i):
     if start < HEADER["trace"] or end > len(file) - 8 or in_common((start, end - start), sections[0]):
         raise Refused(7)
     samples = list(struct.iter_unpack("<QI", file[start:end]))
-    if not rising([time for time, _ in samples]):
+    if any(later < time for (time, _), (later, _) in zip(samples, samples[1:])):
         raise Refused(11)
     return profile, samples
 

@@ -169,7 +169,24 @@ case("t-large", f, f"at 3 {2 ** 63 - 2} absent; at 3 {2 ** 63 - 1} sample 0 {2 *
 case("t-large", f, f"at 3 0 absent; at 3 {MAX} sample 2 {2 ** 63 + 1} 8; at 4 1 absent; at 4 {2 ** 32 - 1} sample 0 {2 ** 32 - 1} 9")
 case("t-large", f, f"at 4 {2 ** 32} sample 1 {2 ** 32} 10; at 5 4 absent; at 5 {2 ** 32 + 2} sample 0 5 12; at 5 {2 ** 63} sample 1 {2 ** 32 + 3} 13")
 
-# ---- many samples: 201 without gaps, 300 with gaps; the 201 with one pair equal, or falling
+# ---- times that repeat: 10, 10, 20; 10, 20, 19; the greatest time twice; 1,000 equal times; each time three times
+m = Maker("trace")
+m.trace((10, 1), (10, 2), (20, 3))
+m.trace((10, 1), (20, 2), (19, 3))
+m.trace((MAX, 4), (MAX, 5))
+m.trace(*((10 ** 18, k) for k in range(1000)))
+m.trace(*((10 * (k // 3), 7 * k) for k in range(300)))
+f = m.done()
+case("t-repeat", f, "header 0 0 line 100 3; at 0 9 absent; at 0 10 sample 1 10 2; at 0 11 sample 1 10 2; at 0 19 sample 1 10 2; at 0 20 sample 2 20 3")
+case("t-repeat", f, "sample 0 0 sample 0 10 1; sample 0 1 sample 1 10 2; sample 0 2 sample 2 20 3; sample 0 3 refused 15")
+case("t-repeat", f, bad(1, 11), *(f"at 1 {t} refused 11" for t in (0, 5, 9, 10, 15, 19, 20)), *(f"sample 1 {k} refused 11" for k in (1, 2, 3)))
+case("t-repeat", f, f"header 2 0 line 102 2; at 2 {MAX} sample 1 {MAX} 5; at 2 {MAX - 1} absent; at 2 0 absent; sample 2 0 sample 0 {MAX} 4")
+case("t-repeat", f, f"header 3 0 line 103 1000; at 3 {10 ** 18 - 1} absent; at 3 {10 ** 18} sample 999 {10 ** 18} 999; at 3 {MAX} sample 999 {10 ** 18} 999")
+case("t-repeat", f, f"sample 3 0 sample 0 {10 ** 18} 0; sample 3 998 sample 998 {10 ** 18} 998; sample 3 1000 refused 15")
+for t in 0, 1, 42, 63, 64, 99:
+    case("t-repeat", f, *(f"at 4 {10 * t + d} sample {3 * t + 2} {10 * t} {21 * t + 14}" for d in (0, 9)))
+
+# ---- many samples: 201 without gaps, 300 with gaps; the 201 with one time repeated, or two exchanged
 m = Maker("trace")
 close = [(1000 + k, 3 + 7 * k) for k in range(201)]
 m.trace(*close)
@@ -185,20 +202,32 @@ case("t-many", f, "header 1 0 line 101 300; at 1 49 absent; at 1 50 sample 0 50 
 for k in 1, 128, 255, 256, 299:
     case("t-many", f, f"at 1 {49 + 10 * k} sample {k - 1} {40 + 10 * k} {2 ** 32 - k}; sample 1 {k} sample {k} {50 + 10 * k} {2 ** 32 - 1 - k}")
 case("t-many", f, "sample 1 300 refused 15; sample 1 556 refused 15; sample 0 200 sample 200 1200 1403; sample 0 201 refused 15")
-case("t-many", f, *(f"at {i} 999 refused 11; sample {i} {k} refused 11" for i, k in [(2, 200), (3, 0), (4, 201), (5, 9), (6, 0)]))
+for i, k in (2, 1), (3, 100), (4, 200):
+    case("t-many", f, f"header {i} 0 line {100 + i} 201; at {i} {999 + k} sample {k} {999 + k} 1; at {i} {1000 + k} sample {k} {999 + k} 1")
+    case("t-many", f, f"sample {i} {k - 1} sample {k - 1} {999 + k} {7 * k - 4}; sample {i} {k} sample {k} {999 + k} 1; sample {i} 201 refused 15")
+case("t-many", f, *(f"at {i} 999 refused 11; sample {i} {k} refused 11" for i, k in [(5, 9), (6, 201)]))
 
 # ---- the order of times; each row is a line of its own
 RISING = [(1, 2, 3), (0, 1), (0, MAX), (1, 2 ** 63), (255, 256), (2 ** 32 - 1, 2 ** 32), (2 ** 63 - 1, 2 ** 63)]
+# a time that repeats, and the last of its samples
+REPEATED = [
+    ((5, 5), 5, 1), ((1, 2, 2), 2, 2), ((2, 2, 3), 2, 1), ((1, 2, 3, 4, 4), 4, 4), ((1, 2, 2, 3, 4), 2, 2), ((0, 0), 0, 1), ((MAX, MAX), MAX, 1),
+    ((1, MAX, MAX), MAX, 2), ((2 ** 32 + 5, 2 ** 32 + 5), 2 ** 32 + 5, 1), ((0, 0, 0, 0, 1), 0, 3), ((0, 0, 0, 0, 0, 1), 0, 4)]
 FALLING = [
-    (5, 5), (6, 5), (1, 2, 2), (1, 3, 2), (2, 2, 3), (2, 1, 3), (1, 2, 3, 4, 4), (1, 2, 3, 4, 3), (1, 2, 2, 3, 4), (1, 3, 2, 4, 5), (3, 2, 1),
-    (1, 2, 3, 1, 2, 3), (10, 20, 15, 30), (0, 0), (MAX, MAX), (MAX, 0), (1, MAX, MAX), (MAX, MAX - 1), (2 ** 63, 1), (2 ** 63, 2 ** 63 - 1),
-    (2 ** 32, 1), (2 ** 32, 2 ** 32 - 1), (256, 1), (2 ** 32 + 5, 2 ** 32 + 5), (2 ** 63 + 5, 5)]
+    (6, 5), (1, 3, 2), (2, 1, 3), (1, 2, 3, 4, 3), (1, 3, 2, 4, 5), (3, 2, 1), (1, 2, 3, 1, 2, 3), (10, 20, 15, 30), (MAX, 0), (MAX, MAX - 1),
+    (2 ** 63, 1), (2 ** 63, 2 ** 63 - 1), (2 ** 32, 1), (2 ** 32, 2 ** 32 - 1), (256, 1), (2 ** 63 + 5, 5), (5, 5, 4), (5, 4, 4), (MAX, MAX, 0)]
+# all but one are equal to the one before
+FALLING += [(10,) * k + (9,) * (9 - k) for k in range(1, 9)]
 m = Maker("trace")
-m.infos(36)
-asked = ["lines 0 0 count 36; header 36 0 refused 15"]
+rows = len(RISING) + len(REPEATED) + len(FALLING) + 4
+m.infos(rows)
+asked = [f"lines 0 0 count {rows}; header {rows} 0 refused 15"]
 for times in RISING:
     i, n = m.trace(*((t, 9) for t in times)), len(times)
     asked.append(f"at {i} {MAX} sample {n - 1} {times[-1]} 9")
+for times, t, k in REPEATED:
+    i = m.trace(*((time, 9) for time in times))
+    asked.append(f"at {i} {t} sample {k} {t} 9; header {i} 0 line {100 + i} {len(times)}")
 for times in FALLING:
     asked.append(one_bad(m.trace(*((t, 9) for t in times)), 11))
 # 7 before 11: a range that is no good; the last reaches into the last eight bytes
@@ -560,6 +589,18 @@ for size in 1, 55, 56, 100, end - 1, end:
 for i in range(16):
     at = (dice.below(len(f)), m.at(dice.below(4)) + 32 + dice.below(2), dice.of((16, 32, m.info)) + dice.below(16), end - 72 + dice.below(72))[i % 4]
     damage("p-damage-%d" % i, f, at, ["profiles 0 0"] + [q % k for q in ("tuple %d 0", "identifier %d 0", "identifier %d 1") for k in range(4)])
+
+# ---- at random, from few times, so that most repeat
+dice = Dice(20260101)
+for i in range(8):
+    m, n = Maker("trace"), 4 + dice.below(40)
+    first = dice.of((0, dice.bits(), 2 ** 32 - 3, MAX - 5))
+    truth = [(time, dice.below(2 ** 31)) for time in sorted(first + dice.below(6) for _ in range(n))]
+    m.trace(*truth)
+    f = m.done(u(8, dice.bits()))
+    for t in range(max(0, first - 1), first + 6):
+        k = max((k for k, (time, _) in enumerate(truth) if time <= t), default=None)
+        case("t-repeat-%d" % i, f, f"at 0 {t} " + ("absent" if k is None else "sample %d %d %d" % (k, *truth[k])))
 
 if __name__ == "__main__":
     text, list_ = "", ""

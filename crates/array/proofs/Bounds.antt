@@ -1,12 +1,15 @@
 -- The elements of an array that lies in a section stand in the file, so that their places are u64.
 use Prim.Native.Nat.{ℕ, zero, suc, _+_, _*_, _^_, _≤_, _<_}
 use mathlib.Core.List.{List, [], _∷_}
+use mathlib.Core.Logic.{_↔_}
 use mathlib.Core.Path.{_≡_, refl}
 use native.Mathlib.Nat.{mul-le-mul-right, suc-mul}
 use native.Mathlib.Numerals.{add-one}
+use native.Mathlib.Decide.{decLt}
 use native.Mathlib.Omega.{arith}
 use borrow.Author.Tests.{lt-ltb, le-ltb}
 use lib.ListN.{length, getD}
+use Rattle.refusal.specs.declared.Refusal.{Refusal}
 use Rattle.refusal.specs.declared.Refusal.the-variants as No
 use Rattle.refusal.specs.declared.Check.{Check}
 use Rattle.refusal.specs.declared.Check.the-variants.{Passed}
@@ -19,7 +22,7 @@ use Rattle.open.proofs.Answer.{told-passed}
 use Rattle.open.proofs.Inside.{header-inside, array-inside}
 use Rattle.array.specs.declared.Array.{Array}
 use Rattle.array.specs.declared.Element.the-variants.{At, Refused}
-use Rattle.array.specs.Element.{elementAt, Bounded}
+use Rattle.array.specs.Element.{elementAt, onElement, Bounded}
 use Rattle.array.specs.Stored.{arrayOf, arrayIn}
 
 module _ (a : Array) (i : ℕ) where
@@ -40,6 +43,24 @@ module _ (a : Array) (i : ℕ) where
   pub not-there : a .count ≤ i → Refused No.Index ≡ elementAt a i
   unfolding elementAt either
   not-there h = rw (le-ltb i (a .count) h)
+
+  -- an answer other than 15 is that of an element which is there
+  pub onElement-answers : {A : Type 0} (refused : Refusal → A) (answer : ℕ → A) (y : A) → (refused No.Index ≡ y → ⊥)
+      → (onElement refused (elementAt a i) answer ≡ y) ↔ ((i < a .count) × (answer (a .place + i * a .stride) ≡ y))
+  unfolding onElement
+  onElement-answers refused answer y other = (
+    λ e. elim (decLt i (a .count)) [ yes l ↦ (l, rw (← is-there l) at e) | no l ↦ absurd (other (rw (← not-there (omega arith)) at e)) ],
+    λ h. rw (← is-there (h .0)) (h .1),
+  )
+
+  -- 15 says that it is not there, where the answer is never 15
+  pub onElement-refuses : {A : Type 0} (refused : Refusal → A) (answer : ℕ → A) → ((at : ℕ) → answer at ≡ refused No.Index → ⊥)
+      → (onElement refused (elementAt a i) answer ≡ refused No.Index) ↔ (a .count ≤ i)
+  unfolding onElement
+  onElement-refuses refused answer never = (
+    λ e. elim (decLt i (a .count)) [ yes l ↦ absurd (never _ (rw (← is-there l) at e)) | no l ↦ omega arith ],
+    λ l. rw (← not-there l),
+  )
 
 -- a section that has a header is one of the format's
 has-header : (ss : List Section) (k : ℕ) → 0 < getD ss k stringsSection .end → k < length ss

@@ -1,6 +1,6 @@
 -- Sub-arrays of a block: what one pass tests of them, and what a checked block tells of them.
 use Prim.Native.Nat.{ℕ, _+_, _-_, _*_, _≤_, _<_}
-use mathlib.Core.Bool.{true, false}
+use mathlib.Core.Bool.{true, false, and-false}
 use mathlib.Core.List.{List}
 use mathlib.Core.Logic.{inl, inr}
 use mathlib.Core.Path.{_≡_, sym, _∙_}
@@ -12,7 +12,7 @@ use Rattle.seq.specs.Sequence.{every, rises, Sorted}
 use Rattle.seq.specs.declared.Position.{Position}
 use Rattle.seq.specs.declared.Position.the-variants.{At}
 use Rattle.seq.proofs.Search.{position-below}
-use Rattle.seq.proofs.Every.{and-false, every-not}
+use Rattle.seq.proofs.Every.{every-not}
 use Rattle.seq.proofs.Rising.{rises-sorted}
 use Rattle.block.specs.declared.Shape.{Shape}
 use Rattle.block.specs.declared.Block.{Block}

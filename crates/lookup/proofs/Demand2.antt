@@ -1,26 +1,22 @@
 -- Demand 2 of lookups, for any format whose first section has the array of blocks: a checked block is there exactly if the file opens,
 -- the element is there and its block is well formed; what a lookup says of it is what the block holds.
 use Prim.Native.Nat.{ℕ, _+_, _*_, _<_}
-use mathlib.Core.Bool.{Bool, true, false}
 use mathlib.Core.List.{List}
 use mathlib.Core.Logic.{_↔_}
 use mathlib.Core.Path.{_≡_, refl, sym, ap}
 use native.Mathlib.Omega.{arith}
-use borrow.Author.Tests.{ltb-true, lt-ltb}
-use lib.Dec.{ltb}
 use Rattle.refusal.specs.declared.Refusal.{Refusal}
 use Rattle.refusal.specs.declared.Refusal.the-variants as No
-use Rattle.refusal.specs.declared.Check.{Check}
 use Rattle.refusal.specs.declared.Check.the-variants as Check
-use Rattle.refusal.specs.Check.{either, ifPassed}
+use Rattle.refusal.proofs.Checks.{ifPassed-answers}
 use Rattle.open.specs.Format as Format
 use Rattle.open.specs.Names as Section
-use Rattle.open.specs.Opening.{opening, pairs, placeIn, onOpened}
-use Rattle.open.proofs.Keeps.{opens-iff}
+use Rattle.open.specs.Opening.{pairs, placeIn, onOpened}
+use Rattle.open.specs.Kept.{Opens}
+use Rattle.open.proofs.Given.{onOpened-answers}
 use Rattle.array.specs.declared.Array.{Array}
-use Rattle.array.specs.declared.Element.the-variants as Element
-use Rattle.array.specs.Element.{elementAt, onElement}
 use Rattle.array.specs.Stored.{arrayOf, arrayIn}
+use Rattle.array.proofs.Bounds.{onElement-answers}
 use Rattle.block.specs.declared.Shape.{Shape}
 use Rattle.block.specs.declared.Block.{Block}
 use Rattle.block.specs.declared.Lookup.{Lookup}
@@ -35,24 +31,9 @@ use Rattle.lookup.specs.Demand2.{There, Says, Demand2}
 
 -- ---- a checked block
 
-passed-iff : (c : Check) (x : Checked) (b : Block) → (ifPassed Refused c x ≡ Valid b) ↔ ((c ≡ Check.Passed) × (x ≡ Valid b))
-unfolding ifPassed
-passed-iff Check.Passed x b = (λ e. (refl, e), λ e. e .1)
-passed-iff (Check.Refused r) x b = (
-  λ e. absurd (let z : _≡_ {A = ℕ} 0 1 = cc in omega arith),
-  λ e. absurd (let q = e .0 in let z : _≡_ {A = ℕ} 0 1 = cc in omega arith),
-)
-
-element-iff : (a : Array) (i : ℕ) (answer : ℕ → Checked) (b : Block)
-    → (onElement Refused (elementAt a i) answer ≡ Valid b) ↔ ((i < a .count) × (answer (a .place + i * a .stride) ≡ Valid b))
-unfolding elementAt onElement either
-element-iff a i answer b = (go (ltb i (a .count)) refl, λ e. rw (lt-ltb i (a .count) (e .0)) (e .1))
-  where
-    go : (t : Bool) → ltb i (a .count) ≡ t
-        → onElement Refused (either t (Element.At (a .place + i * a .stride)) (Element.Refused No.Index)) answer ≡ Valid b
-        → (i < a .count) × (answer (a .place + i * a .stride) ≡ Valid b)
-    go true t e = (ltb-true i (a .count) t, e)
-    go false t e = absurd (let z : _≡_ {A = ℕ} 0 1 = cc in omega arith)
+-- a valid block is no refusal
+not-valid : {b : Block} (r : Refusal) → Refused r ≡ Valid b → ⊥
+not-valid r e = let z : _≡_ {A = ℕ} 0 1 = cc in omega arith
 
 module _ (f : Format.Format) (content : Format.sectionAt f Section.infos .content ≡ Format.infosArray) (h : Shape) (file : List ℕ) (i : ℕ) where
   abbrev sections : List (List ℕ)
@@ -71,23 +52,35 @@ module _ (f : Format.Format) (content : Format.sectionAt f Section.infos .conten
   same-array : arrayIn f file sections Section.infos ≡ blocks
   same-array = ap (arrayOf file (placeIn sections Section.infos)) content
 
-  asked-there : (opening f file ≡ Check.Passed) → i < blocks .count → blockCheck file h sections asked ≡ Check.Passed → There f h file i asked
+  asked-there : Opens f file → i < blocks .count → blockCheck file h sections asked ≡ Check.Passed → There f h file i asked
   asked-there o l w = record {
-    opens = opens-iff f file .0 o;
+    opens = o;
     element = rw same-array l;
     block = rw same-array;
     well-formed = well-formed-iff file h sections asked .0 w;
   }
 
+  -- step by step: the file opens, the element is there, its block passes
+  module _ (b : Block) where
+    opened-iff : (checked ≡ Valid b) ↔ (Opens f file × (checkedAt file h sections i ≡ Valid b))
+    opened-iff = onOpened-answers Refused f file (λ ps. checkedAt file h ps i) (Valid b) (λ r l. not-valid r)
+
+    element-iff : (checkedAt file h sections i ≡ Valid b) ↔ ((i < blocks .count) × (checkedBlock file h sections asked ≡ Valid b))
+    unfolding checkedAt
+    element-iff = onElement-answers blocks i Refused (λ at. checkedBlock file h sections (blockAt file h at)) (Valid b) (not-valid No.Index)
+
+    block-iff : (checkedBlock file h sections asked ≡ Valid b) ↔ ((blockCheck file h sections asked ≡ Check.Passed) × (Valid asked ≡ Valid b))
+    unfolding checkedBlock
+    block-iff = ifPassed-answers Refused (blockCheck file h sections asked) (Valid asked) (Valid b) (λ r l. not-valid r)
+
   there-iff : (b : Block) → (checked ≡ Valid b) ↔ There f h file i b
-  unfolding onOpened checkedAt checkedBlock
   there-iff b = (to, from)
     where
       to : checked ≡ Valid b → There f h file i b
       to e =
-          let o = passed-iff (opening f file) (checkedAt file h sections i) b .0 e in
-          let l = element-iff blocks i (λ at. checkedBlock file h sections (blockAt file h at)) b .0 (o .1) in
-          let w = passed-iff (blockCheck file h sections asked) (Valid asked) b .0 (l .1) in
+          let o = opened-iff b .0 e in
+          let l = element-iff b .0 (o .1) in
+          let w = block-iff b .0 (l .1) in
           let v = w .1 in
           let q : asked ≡ b = cc in
           rw q at (asked-there (o .0) (l .0) (w .0))
@@ -96,12 +89,9 @@ module _ (f : Format.Format) (content : Format.sectionAt f Section.infos .conten
       from t =
           let q : b ≡ asked = rw same-array at (t .block) in
           let w : WellFormed file h sections asked = rw q at (t .well-formed) in
-          passed-iff (opening f file) (checkedAt file h sections i) b .1 (
-            opens-iff f file .1 (t .opens),
-            element-iff blocks i (λ at. checkedBlock file h sections (blockAt file h at)) b .1 (
-              rw same-array at (t .element),
-              passed-iff (blockCheck file h sections asked) (Valid asked) b .1 (well-formed-iff file h sections asked .1 w, ap Valid (sym q)),
-            ),
+          opened-iff b .1 (
+            t .opens,
+            element-iff b .1 (rw same-array at (t .element), block-iff b .1 (well-formed-iff file h sections asked .1 w, ap Valid (sym q))),
           )
 
   -- ---- a lookup in it

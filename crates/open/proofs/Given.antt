@@ -8,10 +8,12 @@ use Rattle.refusal.specs.declared.Refusal.{Refusal}
 use Rattle.refusal.specs.declared.Refusal.the-variants as No
 use Rattle.refusal.specs.declared.Check.the-variants.{Refused}
 use Rattle.refusal.specs.Number.{numberOf}
+use Rattle.refusal.proofs.Checks.{ifPassed-answers}
 use Rattle.open.specs.Format.{Format, trace}
-use Rattle.open.specs.Opening.{opening}
+use Rattle.open.specs.Opening.{pairs, opening, onOpened}
+use Rattle.open.specs.Kept.{Opens}
 use Rattle.open.specs.Given.{FrontKept, Given}
-use Rattle.open.proofs.Keeps.{FrontBroken, FrontPassed, SectionsBroken, opening-decides}
+use Rattle.open.proofs.Keeps.{FrontBroken, FrontPassed, SectionsBroken, opens-iff, opening-decides}
 
 module _ (f : Format) (file : List ℕ) where
   given : {own r : Refusal} → own ≡ r → Given f file own → Given f file r
@@ -58,6 +60,16 @@ refused-iff f file r = let i = opening-decides f file .refuses r in (λ e. to f 
 -- it has no refusals but 1 to 7
 pub one-to-seven : (f : Format) (file : List ℕ) (r : Refusal) → opening f file ≡ Refused r → numberOf r ≤ 7
 one-to-seven f file r e = from f file r (refused-iff f file r .0 e) .0
+
+-- an answer that opening does not give is given of a file that opens
+pub onOpened-answers : {A : Type 0} (refused : Refusal → A) (f : Format) (file : List ℕ) (answer : List (List ℕ) → A) (y : A)
+    → ((r : Refusal) → numberOf r ≤ 7 → refused r ≡ y → ⊥)
+    → (onOpened refused f file answer ≡ y) ↔ (Opens f file × (answer (pairs f file) ≡ y))
+unfolding onOpened
+onOpened-answers refused f file answer y other =
+    let i = ifPassed-answers refused (opening f file) (answer (pairs f file)) y (λ r e. other r (one-to-seven f file r e)) in
+    let o = opens-iff f file in
+    (λ e. (o .0 (i .0 e .0), i .0 e .1), λ h. i .1 (o .1 (h .0), h .1))
 
 -- trace.db is never refused for its footer: an empty one always stands
 pub trace-footer : (file : List ℕ) → opening trace file ≡ Refused No.Footer → ⊥

@@ -7,7 +7,7 @@ use native.Mathlib.Omega.{arith}
 use Rattle.refusal.specs.declared.Refusal.{Refusal}
 use Rattle.refusal.specs.declared.Check.{Check}
 use Rattle.refusal.specs.declared.Check.the-variants.{Passed, Refused}
-use Rattle.refusal.specs.Check.{rule, first}
+use Rattle.refusal.specs.Check.{rule, first, ifPassed}
 
 pub rule-passes : (t : Bool) (r : Refusal) → (rule t r ≡ Passed) ↔ (t ≡ true)
 unfolding rule
@@ -53,6 +53,23 @@ after-refused b e = rw e
 
 pub not-both : {r : Refusal} → Passed ≡ Refused r → ⊥
 not-both e = let z : _≡_ {A = ℕ} 0 1 = cc in omega arith
+
+-- ---- an answer after a check, told from the check's refusals
+
+module _ {A : Type 0} (refused : Refusal → A) where
+  -- one that the check does not give was given because it passed
+  pub ifPassed-answers : (c : Check) (x y : A) → ((r : Refusal) → c ≡ Refused r → refused r ≡ y → ⊥)
+      → (ifPassed refused c x ≡ y) ↔ ((c ≡ Passed) × (x ≡ y))
+  unfolding ifPassed
+  ifPassed-answers Passed x y other = (λ e. (refl, e), λ h. h .1)
+  ifPassed-answers (Refused r) x y other = (λ e. absurd (other r refl e), λ h. absurd (not-both (sym (h .0))))
+
+  -- a refusal that is no answer was given by the check
+  pub ifPassed-refuses : (c : Check) (x : A) (r : Refusal) → (x ≡ refused r → ⊥) → ((s : Refusal) → refused s ≡ refused r → s ≡ r)
+      → (ifPassed refused c x ≡ refused r) ↔ (c ≡ Refused r)
+  unfolding ifPassed
+  ifPassed-refuses Passed x r other same = (λ e. absurd (other e), λ h. absurd (not-both h))
+  ifPassed-refuses (Refused s) x r other same = (λ e. ap Refused (same s e), λ h. let q : s ≡ r = cc in ap refused q)
 
 -- ---- all that a check says: it passes exactly if P, and it refuses by r exactly if G r
 

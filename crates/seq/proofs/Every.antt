@@ -1,6 +1,6 @@
 -- A test of every number, from and to the test of each.
 use Prim.Native.Nat.{ℕ, zero, suc, _+_, _<_}
-use mathlib.Core.Bool.{Bool, true, false, _&&_, true≢false}
+use mathlib.Core.Bool.{Bool, true, false, _&&_, true≢false, and-false}
 use mathlib.Core.Logic.{_⊎_, inl, inr}
 use mathlib.Core.Path.{_≡_, refl, sym, ap, _∙_}
 use native.Mathlib.Nat.{eq-or-lt-of-le, le-of-suc-le-suc, not-suc-le-zero}
@@ -21,10 +21,6 @@ all-four a b c d e =
     let low = both-left (a && b) (c && d) e in
     let high = both-right (a && b) (c && d) e in
     (both-left a b low, both-right a b low, both-left c d high, both-right c d high)
-
-pub and-false : (a : Bool) → (a && false) ≡ false
-and-false true = refl
-and-false false = refl
 
 module _ (p : ℕ → Bool) where
   pub every-none : every p 0 ≡ true
@@ -57,3 +53,14 @@ module _ (p : ℕ → Bool) where
       last : (k ≡ n) ⊎ (k < n) → (k < n → p k ≡ false → every p n ≡ false) → (every p n && p n) ≡ false
       last (inl e) r = rw (sym (ap p e) ∙ h) (and-false (every p n))
       last (inr l) r = rw (r l h)
+
+  -- where it does not hold of all, there is one that it does not hold of
+  pub every-broken : (n : ℕ) → every p n ≡ false → (k : ℕ) × ((k < n) × (p k ≡ false))
+  unfolding every
+  every-broken zero h = absurd (true≢false h)
+  every-broken (suc n) h = last (every p n) refl h (every-broken n)
+    where
+      last : (all : Bool) → every p n ≡ all → (all && p n) ≡ false → (every p n ≡ false → (k : ℕ) × ((k < n) × (p k ≡ false)))
+          → (k : ℕ) × ((k < suc n) × (p k ≡ false))
+      last true e q r = (n, (omega arith, q))
+      last false e q r = let k = r e in (k .0, (omega (arith, k .1 .0), k .1 .1))

@@ -6,10 +6,10 @@ use mathlib.Core.Path.{_≡_, refl, sym}
 use native.Mathlib.Nat.{eq-or-lt-of-le, le-of-suc-le-suc, not-suc-le-zero}
 use native.Mathlib.Numerals.{add-one}
 use native.Mathlib.Omega.{arith}
-use borrow.Author.Tests.{le-leb, lt-leb, leb-true}
+use borrow.Author.Tests.{le-leb, lt-leb, leb-true, leb-false}
 use lib.Dec.{leb}
 use Rattle.seq.specs.Sequence.{floor, rises, Sorted, NonDecreasing}
-use Rattle.seq.proofs.Every.{all-four, every-none, every-more, every-at, every-of, every-not}
+use Rattle.seq.proofs.Every.{all-four, every-none, every-more, every-at, every-of, every-not, every-broken}
 
 module _ (least gap : ℕ) (f : ℕ → ℕ) where
   abbrev test : ℕ → Bool
@@ -44,6 +44,16 @@ module _ (least gap : ℕ) (f : ℕ → ℕ) where
       at : (k : ℕ) → k < n → test k ≡ true
       at zero l = le-leb (floor least gap f 0) (f 0) (rw floor-first (first l))
       at (suc k) l = le-leb (floor least gap f (suc k)) (f (suc k)) (rw (floor-next k) (next k l))
+
+  -- where they do not rise, the first is too low, or one is less than a gap above the one before it
+  pub rises-broken : (n : ℕ) → rises least gap f n ≡ false
+      → ((0 < n) × (f 0 < least)) ⊎ ((k : ℕ) × ((suc k < n) × (f (suc k) < f k + gap)))
+  unfolding rises
+  rises-broken n h = at (every-broken test n h)
+    where
+      at : (k : ℕ) × ((k < n) × (test k ≡ false)) → ((0 < n) × (f 0 < least)) ⊎ ((k : ℕ) × ((suc k < n) × (f (suc k) < f k + gap)))
+      at (zero, (l, e)) = inl (l, rw floor-first at (leb-false (floor least gap f 0) (f 0) e))
+      at (suc k, (l, e)) = inr (k, (l, rw (floor-next k) at (leb-false (floor least gap f (suc k)) (f (suc k)) e)))
 
   pub rises-one : least ≤ f 0 → rises least gap f 1 ≡ true
   rises-one l = rises-of 1 (λ h. l) (λ k h. absurd (omega arith))

@@ -1,9 +1,9 @@
 -- The check of a trace line by facts: what each of its answers says.
-use Prim.Native.Nat.{ℕ, _-_}
-use mathlib.Core.Bool.{Bool, true, _&&_}
+use Prim.Native.Nat.{ℕ, suc, _+_, _-_, _<_}
+use mathlib.Core.Bool.{Bool, true, false, _&&_}
 use mathlib.Core.List.{List}
-use mathlib.Core.Logic.{_↔_}
-use mathlib.Core.Path.{_≡_}
+use mathlib.Core.Logic.{_↔_, _⊎_, inl, inr}
+use mathlib.Core.Path.{_≡_, refl}
 use native.Mathlib.Omega.{arith}
 use borrow.Author.Tests.{leb-true, le-leb}
 use lib.Dec.{leb}
@@ -17,9 +17,9 @@ use Rattle.open.specs.Format as Format
 use Rattle.outside.specs.Outside.{lies}
 use Rattle.outside.proofs.Apart.{lies-iff}
 use Rattle.seq.specs.Sequence.{rises}
-use Rattle.seq.proofs.Rising.{rises-next, rises-of}
+use Rattle.seq.proofs.Rising.{rises-next, rises-of, rises-broken}
 use Rattle.trace.specs.Trace.{timeAt, lineRule, samplesOf, leastGap, lineCheck}
-use Rattle.trace.specs.Facts.{RangeKept, TimesKept}
+use Rattle.trace.specs.Facts.{RangeKept, TimesKept, TimeFalls}
 
 module _ (file : List ℕ) (sections : List (List ℕ)) (start end : ℕ) where
   -- rule 7 holds exactly if its clauses do
@@ -59,11 +59,25 @@ module _ (file : List ℕ) (sections : List (List ℕ)) (start end : ℕ) where
 
   pub times-iff : (times ≡ true) ↔ TimesKept file start end
   times-iff = (
-    rises-next 0 leastGap (timeAt file start) (samplesOf start end),
-    rises-of 0 leastGap (timeAt file start) (samplesOf start end) (λ l. omega arith),
+    λ e k l. omega (arith, rises-next 0 leastGap (timeAt file start) (samplesOf start end) e k l),
+    λ h. rises-of 0 leastGap (timeAt file start) (samplesOf start end) (λ l. omega arith) (λ k l. omega (arith, h k l)),
   )
 
-  -- a line passes exactly if it lies where it may and its timestamps increase
+  -- they are not kept exactly if one falls
+  falls-iff : (TimesKept file start end → ⊥) ↔ TimeFalls file start end
+  falls-iff = (λ broken. go times refl broken, λ t h. omega (arith, t .falls, h (t .k) (t .next)))
+    where
+      at : ((0 < samplesOf start end) × (timeAt file start 0 < 0))
+          ⊎ ((k : ℕ) × ((suc k < samplesOf start end) × (timeAt file start (suc k) < timeAt file start k + leastGap)))
+          → TimeFalls file start end
+      at (inl (l, h)) = absurd (omega arith)
+      at (inr (k, (l, h))) = record { k = k; next = l; falls = omega arith }
+
+      go : (b : Bool) → times ≡ b → (TimesKept file start end → ⊥) → TimeFalls file start end
+      go true e broken = absurd (broken (times-iff .0 e))
+      go false e broken = at (rises-broken 0 leastGap (timeAt file start) (samplesOf start end) e)
+
+  -- a line passes exactly if it lies where it may and no timestamp falls
   pub line-passes : (lineCheck file sections start end ≡ Passed) ↔ (RangeKept file sections start end × TimesKept file start end)
   unfolding lineCheck
   line-passes = both-hold (lineRule file sections start end) times range-iff times-iff 7-is-not-11
@@ -73,8 +87,9 @@ module _ (file : List ℕ) (sections : List (List ℕ)) (start end : ℕ) where
   unfolding lineCheck
   line-7 = first-broken (lineRule file sections start end) times range-iff times-iff 7-is-not-11
 
-  -- 11 exactly if it lies there and its timestamps do not increase
-  pub line-11 : (lineCheck file sections start end ≡ Refused No.Order)
-      ↔ (RangeKept file sections start end × (TimesKept file start end → ⊥))
+  -- 11 exactly if it lies there and a timestamp falls
+  pub line-11 : (lineCheck file sections start end ≡ Refused No.Order) ↔ (RangeKept file sections start end × TimeFalls file start end)
   unfolding lineCheck
-  line-11 = second-broken (lineRule file sections start end) times range-iff times-iff 7-is-not-11
+  line-11 =
+      let b = second-broken (lineRule file sections start end) times range-iff times-iff 7-is-not-11 in
+      (λ e. (b .0 e .0, falls-iff .0 (b .0 e .1)), λ h. b .1 (h .0, falls-iff .1 (h .1)))

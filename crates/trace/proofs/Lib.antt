@@ -1,2 +1,4 @@
 pub mod Lines
 pub mod Facts
+pub mod Answered
+pub mod Says

@@ -2,34 +2,26 @@
 use Prim.Native.Nat.{ℕ, _+_, _-_, _*_, _≤_, _<_}
 use mathlib.Core.Bool.{Bool, true, false, _&&_, and-false}
 use mathlib.Core.List.{List, [], _∷_}
-use mathlib.Core.Path.{_≡_, refl, sym, ap}
+use mathlib.Core.Path.{_≡_, refl, sym}
 use native.Mathlib.Nat.{mul-one}
 use native.Mathlib.Omega.{arith}
 use borrow.Author.Tests.{leb-true, leb-false, le-leb, lt-leb}
 use lib.Dec.{leb}
 use Rattle.range.specs.Range.{multiple}
 use Rattle.refusal.specs.declared.Refusal.the-variants as No
-use Rattle.refusal.specs.declared.Check.{Check}
-use Rattle.refusal.specs.declared.Check.the-variants as Check
 use Rattle.refusal.specs.Check.{rule, first, ifPassed}
 use Rattle.open.specs.Format as Format
-use Rattle.open.specs.Names as Section
-use Rattle.open.specs.Opening.{opening, pairs, onOpened}
-use Rattle.array.specs.declared.Element.{Element}
-use Rattle.array.specs.declared.Element.the-variants as Element
-use Rattle.array.specs.Element.{elementAt, onElement}
-use Rattle.array.specs.Stored.{arrayIn}
+use Rattle.open.specs.Opening.{pairs}
 use Rattle.outside.specs.Outside.{lies}
 use Rattle.outside.proofs.Apart.{lies-one}
 use Rattle.seq.specs.Sequence.{rises}
 use Rattle.seq.proofs.Rising.{rises-nondecreasing}
-use Rattle.le.specs.Number.{number}
-use Rattle.trace.specs.declared.Line.{Line}
 use Rattle.trace.specs.declared.Line.the-variants.{Of, Refused}
-use Rattle.trace.specs.Trace.{timeAt, lineRule, samplesOf, leastGap, lineCheck, lineOf, lineIn, lineAt}
+use Rattle.trace.specs.Trace.{timeAt, lineRule, samplesOf, leastGap, lineCheck, lineOf, lineAt}
 use Rattle.trace.specs.Sound.{SamplesInside, SoundSamples}
 use Rattle.trace.specs.Facts.{RangeKept}
-use Rattle.trace.proofs.Facts.{range-iff, times-iff, line-passes}
+use Rattle.trace.proofs.Facts.{range-iff, times-iff}
+use Rattle.trace.proofs.Answered.{line-iff}
 
 -- a gap is compared with the difference
 pub leb-shift : (time last gap : ℕ) → last ≤ time → leb gap (time - last) ≡ leb (last + gap) time
@@ -73,47 +65,13 @@ pub rule-start : (file : List ℕ) (section : List ℕ) (start end : ℕ) → st
 unfolding lineRule
 rule-start file section start end l = rw (le-leb start end l, mul-one, lies-one)
 
--- ---- a line that is answered
-
-tag : Line → ℕ
-tag (Of profile place samples) = 1
-tag (Refused r) = 0
-
-place-of : Line → ℕ
-place-of (Of profile place samples) = place
-place-of (Refused r) = 0
-
-samples-of : Line → ℕ
-samples-of (Of profile place samples) = samples
-samples-of (Refused r) = 0
-
-module _ (file : List ℕ) (sections : List (List ℕ)) (profile place samples : ℕ) where
-  of-sound : (owner start end : ℕ) → lineOf file sections owner start end ≡ Of profile place samples → SoundSamples file place samples
-  unfolding lineOf ifPassed tag place-of samples-of
-  of-sound owner start end = go (lineCheck file sections start end) refl
-    where
-      go : (c : Check) → lineCheck file sections start end ≡ c → ifPassed Refused c (Of owner start (samplesOf start end)) ≡ Of profile place samples
-          → SoundSamples file place samples
-      go Check.Passed p e =
-          let k = line-passes file sections start end .0 p in
-          rw (← ap place-of e, ← ap samples-of e)
-          (record {
-            samples = inside file sections start end (k .0);
-            times = rises-nondecreasing 0 leastGap (timeAt file start) (samplesOf start end) (times-iff file sections start end .1 (k .1));
-          })
-      go (Check.Refused r) p e = absurd (omega (arith, ap tag e))
-
-  element-sound : (e : Element)
-      → onElement Refused e (λ at. lineOf file sections (number 4 file at) (number 8 file (at + 8)) (number 8 file (at + 16))) ≡ Of profile place samples
-      → SoundSamples file place samples
-  unfolding onElement tag
-  element-sound (Element.At at) e = of-sound (number 4 file at) (number 8 file (at + 8)) (number 8 file (at + 16)) e
-  element-sound (Element.Refused r) e = absurd (omega (arith, ap tag e))
-
+-- a line that is answered has its samples in the file, in order
 pub line-sound : (file : List ℕ) (i profile place samples : ℕ) → lineAt file i ≡ Of profile place samples → SoundSamples file place samples
-unfolding lineAt onOpened lineIn ifPassed tag
-line-sound file i profile place samples = go (pairs Format.trace file) (opening Format.trace file)
-  where
-    go : (ps : List (List ℕ)) (c : Check) → ifPassed Refused c (lineIn file ps i) ≡ Of profile place samples → SoundSamples file place samples
-    go ps Check.Passed e = element-sound file ps profile place samples (elementAt (arrayIn Format.trace file ps Section.infos) i) e
-    go ps (Check.Refused r) e = absurd (omega (arith, ap tag e))
+line-sound file i profile place samples e =
+    let sections = pairs Format.trace file in
+    let k = line-iff file i profile place samples .0 e in
+    rw (k .counted)
+    (record {
+      samples = inside file sections place (k .end) (k .range);
+      times = rises-nondecreasing 0 leastGap (timeAt file place) (samplesOf place (k .end)) (times-iff file sections place (k .end) .1 (k .times));
+    })

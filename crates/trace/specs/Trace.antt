@@ -42,9 +42,9 @@ lineRule file sections start end =
 abbrev pub samplesOf : (start end : ℕ) → ℕ
 samplesOf start end = (end - start) / 12
 
--- 11: a timestamp is at least this much above the one before it
+-- 11: a timestamp is at least this much above the one before it (2026-01: it may repeat, and it may not fall)
 abbrev pub leastGap : ℕ
-leastGap = 1
+leastGap = 0
 
 unfoldable pub lineCheck : List ℕ → (sections : List (List ℕ)) → (start end : ℕ) → Check
 lineCheck file sections start end =

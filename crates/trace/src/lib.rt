@@ -17,8 +17,8 @@ use refusal::Check;
 use refusal::Refusal;
 use seq::Position;
 
-// A timestamp is at least this much above the one before it.
-const GAP: u64 = 1;
+// A timestamp is at least this much above the one before it: it may repeat.
+const GAP: u64 = 0;
 
 // A line: its profile, the place of its first sample, and how many there are.
 pub enum Line {
@@ -77,7 +77,7 @@ fn line_rule(file: &[u8], section: [u64; 2], start: u64, end: u64) -> bool
         & (range::multiple(bytes, 12) & outside::lies(file, 32, section, [0; 2], start, bytes, 1))
 }
 
-// Whether a timestamp is at least a gap above another. No sum is made: a timestamp may be the greatest u64.
+// Whether a timestamp is at least a gap above another, for any gap. No sum is made: a timestamp may be the greatest u64.
 fn follows(time: u64, last: u64, gap: u64) -> bool
     ensures { λ r. ⌜ r ≡ leb (last + gap) time ⌝ }
 {
@@ -87,7 +87,7 @@ fn follows(time: u64, last: u64, gap: u64) -> bool
     gap <= time - last
 }
 
-// Whether each of the four timestamps after timestamp k is a gap above the one before it: one branch for the four.
+// Whether each of the four timestamps after timestamp k is at least a gap above the one before it: one branch for the four.
 fn four_rise(file: &[u8], place: u64, n: u64, k: u64, gap: u64) -> bool
     requires { ⌜ SamplesInside (now file) place n ⌝ }
     requires { ⌜ k + 4 < n ⌝ }
@@ -102,7 +102,7 @@ fn four_rise(file: &[u8], place: u64, n: u64, k: u64, gap: u64) -> bool
         & (follows(three, two, gap) & follows(four, three, gap))
 }
 
-// Timestamp k is the last that is known to rise: as far as steps of four tell.
+// The timestamps up to the answered one are in order, as far as steps of four tell.
 fn rise_by_fours(file: &[u8], place: u64, n: u64, gap: u64) -> u64
     requires { ⌜ SamplesInside (now file) place n ⌝ }
     requires { ⌜ 0 < n ⌝ }

@@ -2,41 +2,37 @@
 use Prim.Native.Nat.{ℕ, _+_, _*_, _^_, _≤_, _<_}
 use mathlib.Core.Bool.{Bool, true, false, not, _&&_}
 use mathlib.Core.List.{List}
-use mathlib.Core.Path.{_≡_, refl, ap, _∙_}
+use mathlib.Core.Path.{_≡_, refl, _∙_}
 use native.Mathlib.Nat.{add-zero, mul-one, mul-comm}
 use native.Mathlib.Omega.{arith}
 use borrow.Author.Tests.{not-true, not-false}
 use lib.ListN.{length}
 use Rattle.le.specs.Number.{number}
 use Rattle.range.specs.Range.{within, multiple}
+use Rattle.refusal.specs.declared.Refusal.{Refusal}
 use Rattle.refusal.specs.declared.Refusal.the-variants as No
-use Rattle.refusal.specs.declared.Check.{Check}
-use Rattle.refusal.specs.declared.Check.the-variants as Check
 use Rattle.refusal.specs.Check.{rule, ifPassed}
+use Rattle.refusal.proofs.Checks.{rule-passes, ifPassed-answers}
 use Rattle.open.specs.Format as Format
 use Rattle.open.specs.Names as Section
-use Rattle.open.specs.Opening.{opening, pairs, pairIn, placeIn, sizeIn, onOpened}
+use Rattle.open.specs.Opening.{pairs, pairIn, placeIn, sizeIn}
 use Rattle.open.specs.Kept.{Sections}
 use Rattle.open.proofs.Keeps.{opens-iff}
+use Rattle.open.proofs.Given.{onOpened-answers}
 use Rattle.open.proofs.Inside.{section-inside}
 use Rattle.array.specs.declared.Array.{Array}
-use Rattle.array.specs.declared.Element.{Element}
-use Rattle.array.specs.declared.Element.the-variants as Element
-use Rattle.array.specs.Element.{elementAt, onElement, Bounded}
+use Rattle.array.specs.Element.{Bounded}
 use Rattle.array.specs.Stored.{arrayIn}
+use Rattle.array.proofs.Bounds.{onElement-answers}
 use Rattle.tuple.specs.declared.Tuple.{Tuple}
 use Rattle.tuple.specs.declared.Tuple.the-variants.{Of, Refused}
 use Rattle.tuple.specs.Tuple.{identifiers, tupleRule, tupleOf, tupleIn, tupleAt}
 use Rattle.tuple.specs.Sound.{SectionInside}
 use Rattle.tuple.proofs.Facts.{tuple-iff}
 
-tag : Tuple → ℕ
-tag (Of a) = 1
-tag (Refused r) = 0
-
-array-of : Tuple → Array → Array
-array-of (Of a) other = a
-array-of (Refused r) other = other
+-- a tuple is no refusal
+refused-not-of : {a : Array} (r : Refusal) → Refused r ≡ Of a → ⊥
+refused-not-of r e = let z : _≡_ {A = ℕ} 0 1 = cc in omega arith
 
 module _ (file : List ℕ) (place size at : ℕ) where
   pub rule-kept : tupleRule file place size at ≡ true → Of (identifiers file at) ≡ tupleOf file place size at
@@ -65,14 +61,14 @@ module _ (file : List ℕ) (place size at : ℕ) where
     fits e = let k = tuple-iff file place size at .0 e in omega (arith, k .starts, k .fits, i (omega (arith, k .starts, k .fits)))
 
     of-bounded : length file < 2 ^ 64 → (a : Array) → tupleOf file place size at ≡ Of a → Bounded a
-    unfolding tag array-of identifiers
-    of-bounded l a e = go (tupleRule file place size at) refl
-      where
-        go : (t : Bool) → tupleRule file place size at ≡ t → Bounded a
-        go true r =
-            rw (← ap (λ (x : Tuple). array-of x a) (rule-kept r ∙ e))
-            (record { ends = λ c. omega (arith, fits r, mul-comm (number 2 file at) 16) })
-        go false r = absurd (omega (arith, ap tag (rule-broken r ∙ e)))
+    unfolding tupleOf identifiers
+    of-bounded l a e =
+        let check = rule (tupleRule file place size at) No.Array in
+        let p = ifPassed-answers Refused check (Of (identifiers file at)) (Of a) (λ r q. refused-not-of r) .0 e in
+        let kept = rule-passes (tupleRule file place size at) No.Array .0 (p .0) in
+        let same = p .1 in
+        let q : identifiers file at ≡ a = cc in
+        rw (← q) (record { ends = λ c. omega (arith, fits kept, mul-comm (number 2 file at) 16) })
 
 module _ (file : List ℕ) where
   -- what opening tells of the section of tuples
@@ -84,18 +80,14 @@ module _ (file : List ℕ) where
     abbrev sections : List (List ℕ)
     sections = pairs Format.profile file
 
-    element-bounded : Sections Format.profile file sections → (e : Element)
-        → onElement Refused e (λ at. tupleOf file (placeIn sections Section.idTuples) (sizeIn sections Section.idTuples) (number 8 file (at + 32)))
-        ≡ Of a → Bounded a
-    unfolding onElement tag
-    element-bounded o (Element.At at) e = of-bounded file _ _ (number 8 file (at + 32)) (tuples-inside o) l a e
-    element-bounded o (Element.Refused r) e = absurd (omega (arith, ap tag e))
+    abbrev tupleBy : (at : ℕ) → Tuple
+    tupleBy at = tupleOf file (placeIn sections Section.idTuples) (sizeIn sections Section.idTuples) (number 8 file (at + 32))
 
     pub tuple-bounded : tupleAt file i ≡ Of a → Bounded a
-    unfolding tupleAt onOpened tupleIn ifPassed tag
-    tuple-bounded = go (opening Format.profile file) refl
-      where
-        go : (c : Check) → opening Format.profile file ≡ c → ifPassed Refused c (tupleIn file sections i) ≡ Of a → Bounded a
-        go Check.Passed p e =
-            element-bounded (record { same = refl; passed = p }) (elementAt (arrayIn Format.profile file sections Section.infos) i) e
-        go (Check.Refused r) p e = absurd (omega (arith, ap tag e))
+    unfolding tupleAt tupleIn
+    tuple-bounded e =
+        let o = onOpened-answers Refused Format.profile file (λ ps. tupleIn file ps i) (Of a) (λ r m. refused-not-of r) .0 e in
+        let profiles = arrayIn Format.profile file sections Section.infos in
+        let t = onElement-answers profiles i Refused tupleBy (Of a) (refused-not-of No.Index) .0 (o .1) in
+        let s : Sections Format.profile file sections = record { same = refl; passed = opens-iff Format.profile file .1 (o .0) } in
+        of-bounded file _ _ _ (tuples-inside s) l a (t .1)

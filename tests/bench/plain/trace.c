@@ -16,12 +16,12 @@ static inline uint64_t timestamp(const struct line *line, uint64_t k)
     return load64(line->samples + k * SAMPLE_SIZE);
 }
 
-static inline bool timestamps_increase(const struct line *line)
+static inline bool a_timestamp_falls(const struct line *line)
 {
     for (uint64_t k = 1; k < line->count; k++)
-        if (timestamp(line, k) <= timestamp(line, k - 1))
-            return false;
-    return true;
+        if (timestamp(line, k) < timestamp(line, k - 1))
+            return true;
+    return false;
 }
 
 /* Line i with all its checks. */
@@ -36,7 +36,7 @@ static uint32_t read_line(const uint8_t *file, const struct infos *infos, uint64
     if (start % 8 != 0 || end % 4 != 0 || (end - start) % SAMPLE_SIZE != 0)
         return HPCDB_ARRAY;
     *line = (struct line){file + start, (end - start) / SAMPLE_SIZE};
-    return timestamps_increase(line) ? HPCDB_OK : HPCDB_ORDER;
+    return a_timestamp_falls(line) ? HPCDB_ORDER : HPCDB_OK;
 }
 
 /* How many samples are not later than a time. */

@@ -6,7 +6,7 @@ use std::fmt::Write as _;
 
 use crate::by_reader::{ABSENT, ANSWERED, CUT};
 use crate::compare::Reply;
-use crate::gen::Specimen;
+use crate::gen::{Known, Specimen};
 use crate::question::Function::*;
 use crate::question::{Database, Question, Row, FUNCTIONS};
 use crate::reader::walk::RECORD_WORDS;
@@ -28,7 +28,7 @@ pub struct Tally {
 }
 
 /// Kinds of answers and files that a run has to meet.
-const KINDS: [&str; 20] = [
+const KINDS: [&str; 21] = [
     "sound file",
     "damaged file",
     "name in the file",
@@ -48,6 +48,7 @@ const KINDS: [&str; 20] = [
     "infinite sum of finite values",
     "lookup in a large block",
     "empty trace line",
+    "last of several samples with one timestamp",
     "batch with an odd last word",
 ];
 
@@ -64,7 +65,7 @@ impl Tally {
         *self.kinds.entry(kind).or_default() += 1;
     }
 
-    pub fn add_case(&mut self, question: &Question, file_length: usize, reply: &Reply) {
+    pub fn add_case(&mut self, question: &Question, specimen: &Specimen, reply: &Reply) {
         self.cases += 1;
         self.codes[question.function as usize][reply.code as usize] += 1;
         let out = reply.memory.out.body();
@@ -74,8 +75,11 @@ impl Tally {
             MetaFunction => self.add_kind(if out[0] == 0 { "name in the file" } else { "placeholder for a name" }),
             MetaFile => self.add_kind(if out[2] == 1 { "copied file" } else { "file not copied" }),
             CctTotals if f64::from_bits(out[5]).is_infinite() => self.add_kind("infinite sum of finite values"),
-            ProfileLookup | CctLookup if file_length > 600_000 => self.add_kind("lookup in a large block"),
+            ProfileLookup | CctLookup if specimen.bytes.len() > 600_000 => self.add_kind("lookup in a large block"),
             TraceLine if out[1] == 0 => self.add_kind("empty trace line"),
+            TraceAt if repeats_the_one_before(specimen, question.numbers[0], out[0]) => {
+                self.add_kind("last of several samples with one timestamp")
+            }
             ProfileLookupMany | CctLookupMany if question.pairs.len() % 2 == 1 => {
                 self.add_kind("batch with an odd last word")
             }
@@ -150,6 +154,17 @@ impl Tally {
             let _ = writeln!(table, "{kind}: {count}");
         }
         table
+    }
+}
+
+/// Whether a sample of a sound trace.db has the timestamp of the sample before it.
+fn repeats_the_one_before(specimen: &Specimen, line: u64, position: u64) -> bool {
+    match &specimen.known {
+        Known::Trace(known) if specimen.damage.is_empty() && position > 0 => {
+            let (line, k) = (&known.lines[line as usize], position as usize);
+            line[k] == line[k - 1]
+        }
+        _ => false,
     }
 }
 

@@ -1,4 +1,4 @@
-//! The reader over files written out by hand, for what has no stored cases: trace lines, tuples, batches.
+//! The reader over files written out by hand: trace lines, tuples, batches.
 
 use differential::reader::trace::Sample;
 use differential::reader::{profile, trace, Refusal};
@@ -38,7 +38,22 @@ fn last_sample_not_later() {
     assert_eq!(at(&[10, 20], 0, u64::MAX), Ok(second));
     assert_eq!(at(&[10, 20], 1, 20), Ok(None));
     assert_eq!(at(&[10, 20], 2, 20), Err(Refusal::Index));
-    assert_eq!(at(&[20, 20], 0, 9), Err(Refusal::Order));
+}
+
+#[test]
+fn timestamps_repeat_and_do_not_fall() {
+    let found = |position: u64, timestamp| Ok(Some((position, Sample { timestamp, ctx_id: 100 + position as u32 })));
+    assert_eq!(at(&[10, 10, 20], 0, 9), Ok(None));
+    assert_eq!(at(&[10, 10, 20], 0, 10), found(1, 10));
+    assert_eq!(at(&[10, 10, 20], 0, 19), found(1, 10));
+    assert_eq!(at(&[10, 10, 20], 0, 20), found(2, 20));
+    assert_eq!(at(&[u64::MAX; 2], 0, u64::MAX), found(1, u64::MAX));
+    assert_eq!(at(&[u64::MAX; 2], 0, u64::MAX - 1), Ok(None));
+    assert_eq!(at(&[7; 1000], 0, 6), Ok(None));
+    assert_eq!(at(&[7; 1000], 0, 7), found(999, 7));
+    for time in [5, 10, 15, 19, 20] {
+        assert_eq!(at(&[10, 20, 19], 0, time), Err(Refusal::Order));
+    }
 }
 
 #[test]
@@ -50,7 +65,7 @@ fn samples_and_lines() {
     assert_eq!(trace::sample(&file, 0, 1), Ok(Sample { timestamp: 20, ctx_id: 101 }));
     assert_eq!(trace::sample(&file, 0, 2), Err(Refusal::Index));
     // the order of a line comes before a position in it
-    assert_eq!(trace::sample(&trace_file(&[20, 20]), 0, 2), Err(Refusal::Order));
+    assert_eq!(trace::sample(&trace_file(&[20, 19]), 0, 2), Err(Refusal::Order));
 }
 
 /// A profile.db: ProfileInfos at 48 with one profile, IdTuples at 104 with one tuple of one identification, then values

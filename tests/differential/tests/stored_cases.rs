@@ -237,3 +237,37 @@ fn blocks() {
     }
     assert_prints("block_cases", printed.as_bytes());
 }
+
+fn shown_sample(answer: Result<Option<(u64, trace::Sample)>, Refusal>) -> Result<String, Refusal> {
+    let shown = |(k, s): (u64, trace::Sample)| format!("sample {k} {} {}", s.timestamp, s.ctx_id);
+    Ok(answer?.map_or("absent".to_owned(), shown))
+}
+
+fn shown_identifier(file: &[u8], profile: u64, k: u64) -> Result<String, Refusal> {
+    let id = profile::identifier(file, profile, k)?;
+    Ok(format!("identifier {} {} {} {}", id.kind, id.flags, id.logical_id, id.physical_id))
+}
+
+#[test]
+fn counts_tuples_and_trace_lines() {
+    let mut printed = String::new();
+    for line in list("record_cases") {
+        let words: Vec<&str> = line.split(' ').collect();
+        let file = data("record_cases", words[1]);
+        let number = |k: usize| words[k].parse().expect("the list has numbers");
+        let (a, b) = (number(2), number(3));
+        let answer = match words[0] {
+            "profiles" => profile::count(&file).map(|n| format!("count {n}")),
+            "contexts" => cct::count(&file).map(|n| format!("count {n}")),
+            "lines" => trace::count(&file).map(|n| format!("count {n}")),
+            "tuple" => profile::tuple(&file, a).map(|n| format!("tuple {n}")),
+            "identifier" => shown_identifier(&file, a, b),
+            "header" => trace::line(&file, a).map(|line| format!("line {} {}", line.prof_idx, line.samples)),
+            "sample" => shown_sample(trace::sample(&file, a, b).map(|sample| Some((b, sample)))),
+            _ => shown_sample(trace::at(&file, a, b)),
+        };
+        let answer = answer.unwrap_or_else(|refusal| format!("refused {}", refusal.number()));
+        printed += &format!("{line} {answer}\n");
+    }
+    assert_prints("record_cases", printed.as_bytes());
+}

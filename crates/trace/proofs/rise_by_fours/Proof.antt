@@ -1,4 +1,4 @@
--- The timestamps up to the one at k rise.
+-- The timestamps up to the one at k are in order.
 use Rattle.trace.specs.Trace.{timeAt}
 use Rattle.seq.proofs.Rising.{Known, known-first, known-four}
 use Prim.Native.Nat.{_-_}

@@ -1,4 +1,4 @@
--- The timestamps passed rise, and the next is to be a gap above the last.
+-- The timestamps passed are in order, and the next is to be at least a gap above the last.
 use Rattle.trace.specs.Trace.{timeAt}
 use Rattle.seq.proofs.Rising.{Rising, rises-none, rising-after, rising-not, rising-more, rising-all}
 use Prim.Native.Nat.{_+_, _-_}

@@ -115,7 +115,7 @@ fn run_file(seed: u64, number: u64, tally: &mut Tally, aloud: bool) -> Result<()
                 shown(question)
             )
         })?;
-        tally.add_case(question, specimen.bytes.len(), &reply);
+        tally.add_case(question, &specimen, &reply);
         Ok::<Reply, String>(reply)
     };
     for question in &first {

@@ -11,21 +11,25 @@ pub struct Known {
     pub lines: Vec<Vec<u64>>,
 }
 
-/// Strictly increasing timestamps: from 0, up to the last there is, or anywhere.
+/// Timestamps that do not fall: from 0, up to the last there is, or anywhere. In most lines of two or more samples some
+/// repeat, up to all.
 fn timestamps(rng: &mut Rng) -> Vec<u64> {
     let samples = if rng.one_in(900) { 70_000 } else { rng.pick(&[0, 1, 2, 2, 3, 5, 9, 30]) };
     let dense = 0..samples as u64;
-    match rng.below(4) {
+    let mut times: Vec<u64> = match rng.below(4) {
         0 => dense.collect(),
         1 => dense.map(|k| u64::MAX - samples as u64 + 1 + k).collect(),
         2 => dense.map(|k| 1_600_000_000_000_000_000 + 1000 * k).collect(),
-        _ => {
-            let mut times: Vec<u64> = dense.map(|_| rng.word()).collect();
-            times.sort_unstable();
-            times.dedup();
-            times
+        _ => dense.map(|_| rng.word()).collect(),
+    };
+    times.sort_unstable();
+    let repeats_of_eight = rng.pick(&[0, 4, 7, 8]);
+    for k in 1..samples {
+        if rng.below(8) < repeats_of_eight {
+            times[k] = times[k - 1];
         }
     }
+    times
 }
 
 pub fn specimen(rng: &mut Rng) -> Specimen {

@@ -42,7 +42,7 @@ impl<'a> Traces<'a> {
         let at = self.0.elements.element(i)?;
         let span = self.line_span(u64_at(file, at + 8), u64_at(file, at + 0x10)).ok_or(Refusal::Array)?;
         let samples = span.of(file).as_chunks().0;
-        if !samples.windows(2).all(|pair| timestamp(&pair[0]) < timestamp(&pair[1])) {
+        if samples.windows(2).any(|pair| timestamp(&pair[1]) < timestamp(&pair[0])) {
             return Err(Refusal::Order);
         }
         Ok(Line { prof_idx: u32_at(file, at), samples })
