@@ -32,8 +32,8 @@ use Rattle.lookup.specs.Demand2.{There, Says, Demand2}
 -- ---- a checked block
 
 -- a valid block is no refusal
-not-valid : {b : Block} (r : Refusal) → Refused r ≡ Valid b → ⊥
-not-valid r e = let z : _≡_ {A = ℕ} 0 1 = cc in omega arith
+refused-not-valid : {b : Block} (r : Refusal) → Refused r ≡ Valid b → ⊥
+refused-not-valid r e = let z : _≡_ {A = ℕ} 0 1 = cc in omega arith
 
 module _ (f : Format.Format) (content : Format.sectionAt f Section.infos .content ≡ Format.infosArray) (h : Shape) (file : List ℕ) (i : ℕ) where
   abbrev sections : List (List ℕ)
@@ -63,15 +63,15 @@ module _ (f : Format.Format) (content : Format.sectionAt f Section.infos .conten
   -- step by step: the file opens, the element is there, its block passes
   module _ (b : Block) where
     opened-iff : (checked ≡ Valid b) ↔ (Opens f file × (checkedAt file h sections i ≡ Valid b))
-    opened-iff = onOpened-answers Refused f file (λ ps. checkedAt file h ps i) (Valid b) (λ r l. not-valid r)
+    opened-iff = onOpened-answers Refused f file (λ ps. checkedAt file h ps i) (Valid b) (λ r l. refused-not-valid r)
 
     element-iff : (checkedAt file h sections i ≡ Valid b) ↔ ((i < blocks .count) × (checkedBlock file h sections asked ≡ Valid b))
     unfolding checkedAt
-    element-iff = onElement-answers blocks i Refused (λ at. checkedBlock file h sections (blockAt file h at)) (Valid b) (not-valid No.Index)
+    element-iff = onElement-answers blocks i Refused (λ at. checkedBlock file h sections (blockAt file h at)) (Valid b) (refused-not-valid No.Index)
 
     block-iff : (checkedBlock file h sections asked ≡ Valid b) ↔ ((blockCheck file h sections asked ≡ Check.Passed) × (Valid asked ≡ Valid b))
     unfolding checkedBlock
-    block-iff = ifPassed-answers Refused (blockCheck file h sections asked) (Valid asked) (Valid b) (λ r l. not-valid r)
+    block-iff = ifPassed-answers Refused (blockCheck file h sections asked) (Valid asked) (Valid b) (λ r l. refused-not-valid r)
 
   there-iff : (b : Block) → (checked ≡ Valid b) ↔ There f h file i b
   there-iff b = (to, from)

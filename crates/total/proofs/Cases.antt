@@ -5,11 +5,12 @@ use mathlib.Core.Path.{_≡_, refl}
 use lib.Ieee.{add, lt, ofBits, toBits}
 use lib.ListN.{length, getD}
 use Rattle.refusal.specs.Check.{either}
+use Rattle.seq.specs.Sequence.{every}
 use Rattle.float.specs.Float.{finite, less}
-use Rattle.total.specs.Totals.{startOf, stepOf, tallyTo, allFinite, finish, totalsOf, totalsWords}
+use Rattle.total.specs.Totals.{startOf, stepOf, tallyTo, finish, totalsOf, totalsWords}
 
 answer : (ids bits : List ℕ) → List ℕ
-unfolding add lt ofBits toBits finite less startOf either stepOf tallyTo allFinite finish totalsOf totalsWords
+unfolding add lt ofBits toBits finite less startOf either stepOf tallyTo every finish totalsOf totalsWords
 answer ids bits = totalsWords (totalsOf (λ i. getD ids i 0) (λ i. getD bits i 0) (length bits))
 
 abbrev one : ℕ

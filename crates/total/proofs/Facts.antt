@@ -1,6 +1,6 @@
 -- Totals by facts: what each answer says of the entries.
 use Prim.Native.Nat.{ℕ, zero, suc, _<_}
-use mathlib.Core.Bool.{Bool, true, false, _&&_, true≢false}
+use mathlib.Core.Bool.{Bool, true, false}
 use mathlib.Core.Logic.{_↔_}
 use mathlib.Core.Path.{_≡_, refl, _∙_}
 use native.Mathlib.Omega.{arith}
@@ -10,11 +10,11 @@ use lib.Ieee.Bits.{ofBits-toBits, ofBits-fits}
 use lib.Ieee.Fits.{add-fits}
 use Rattle.refusal.specs.declared.Refusal.the-variants as No
 use Rattle.refusal.specs.Check.{either}
+use Rattle.seq.proofs.Every.{every-not, every-broken}
 use Rattle.float.specs.Float.{finite}
 use Rattle.total.specs.declared.Totals.the-variants.{Of, Absent, Refused}
 use Rattle.total.specs.Totals.{startOf, stepOf, tallyTo, allFinite, finish, totalsOf}
 use Rattle.total.specs.Facts.{sumTo, Totalled}
-use Rattle.total.proofs.Loop.{not-finite}
 use Rattle.total.proofs.Firsts.{finite-at, first-least, first-greatest}
 
 module _ (ids bits : ℕ → ℕ) where
@@ -28,16 +28,6 @@ module _ (ids bits : ℕ → ℕ) where
   unfolding tallyTo startOf stepOf
   sum-is zero = refl
   sum-is (suc k) = rw (← sum-is k, ofBits-toBits binary64 (tallyTo ids bits k .sum) (sum-fits k))
-
-  some-not : (n : ℕ) → allFinite bits n ≡ false → (i : ℕ) × ((i < n) × (finite (bits i) ≡ false))
-  unfolding allFinite
-  some-not zero e = absurd (true≢false e)
-  some-not (suc n) e = go (allFinite bits n) (some-not n) e
-    where
-      go : (t : Bool) → (t ≡ false → (i : ℕ) × ((i < n) × (finite (bits i) ≡ false))) → (t && finite (bits n)) ≡ false
-          → (i : ℕ) × ((i < suc n) × (finite (bits i) ≡ false))
-      go true before g = (n, (omega arith, g))
-      go false before g = let r = before refl in (r .0, (omega (arith, r .1 .0), r .1 .1))
 
   -- there is no entry exactly if the totals are absent
   pub absent-iff : (n : ℕ) → (totalsOf ids bits n ≡ Absent) ↔ (n ≡ 0)
@@ -55,13 +45,13 @@ module _ (ids bits : ℕ → ℕ) where
   refused-16 zero = (λ e. absurd (let z : _≡_ {A = ℕ} 0 1 = cc in omega arith), λ k. absurd (omega (arith, k .0)))
   refused-16 (suc k) = (
     go (allFinite bits (suc k)) refl,
-    λ s. rw (not-finite bits (suc k) (s .1 .0) (s .1 .1 .0) (s .1 .1 .1)),
+    λ s. rw (every-not (λ i. finite (bits i)) (suc k) (s .1 .0) (s .1 .1 .0) (s .1 .1 .1)),
   )
     where
       go : (t : Bool) → allFinite bits (suc k) ≡ t → either t (finish (suc k) (tallyTo ids bits k)) (Refused No.NotFinite) ≡ Refused No.NotFinite
           → (0 < suc k) × ((i : ℕ) × ((i < suc k) × (finite (bits i) ≡ false)))
       go true f e = absurd (let z : _≡_ {A = ℕ} 0 1 = cc in omega arith)
-      go false f e = (omega arith, some-not (suc k) f)
+      go false f e = (omega arith, every-broken (λ i. finite (bits i)) (suc k) f)
 
   -- totals that are answered are those of all entries, each of them finite
   pub totalled : (n count leastOf least greatestOf greatest sum : ℕ) → totalsOf ids bits n ≡ Of count leastOf least greatestOf greatest sum

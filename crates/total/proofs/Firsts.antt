@@ -5,11 +5,11 @@ use mathlib.Core.Path.{_≡_, refl, sym, _∙_}
 use native.Mathlib.Omega.{arith}
 use borrow.Author.Count.{below-more, below-none}
 use Rattle.refusal.specs.Check.{either}
+use Rattle.seq.proofs.Every.{every-at, every-of}
 use Rattle.float.specs.Float.{finite, less}
 use Rattle.float.proofs.Order.{less-not, less-same, not-less-trans}
 use Rattle.total.specs.Totals.{startOf, stepOf, tallyTo, allFinite}
 use Rattle.total.specs.Facts.{First, more}
-use Rattle.total.proofs.Loop.{not-finite}
 
 -- what an order of finite values has
 record Ordered (better : ℕ → ℕ → Bool) : Type 0 where
@@ -75,11 +75,10 @@ by-more = record { same = less-same; other = λ x y. less-not y x; through = λ 
 
 module _ (ids bits : ℕ → ℕ) where
   pub finite-at : (n : ℕ) → allFinite bits n ≡ true → (i : ℕ) → i < n → finite (bits i) ≡ true
-  finite-at n a i l = must (finite (bits i)) (not-finite bits n i l) a
+  finite-at = every-at (λ i. finite (bits i))
 
   fewer : (n : ℕ) → allFinite bits (suc n) ≡ true → allFinite bits n ≡ true
-  unfolding allFinite
-  fewer n a = must (allFinite bits n) (λ e. rw e) a
+  fewer n a = every-of (λ i. finite (bits i)) n (λ i l. finite-at (suc n) a i (omega arith))
 
   pub first-least : (k : ℕ) → allFinite bits (suc k) ≡ true
       → (j : ℕ) × First less ids bits (suc k) (tallyTo ids bits k .«least_of») (tallyTo ids bits k .least) j

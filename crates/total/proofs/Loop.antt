@@ -1,15 +1,15 @@
 -- A loop over the entries, one at a time: what holds after k of them, from the first one to the answer.
 use Prim.Native.Nat.{ℕ, zero, suc, _+_, _-_, _≤_, _<_}
-use mathlib.Core.Bool.{Bool, true, false, not, _&&_, and-false}
-use mathlib.Core.Logic.{_⊎_, inl, inr}
+use mathlib.Core.Bool.{Bool, true, false, not}
 use mathlib.Core.Path.{_≡_, refl, sym, ap, _∙_}
-use native.Mathlib.Nat.{eq-or-lt-of-le, le-of-suc-le-suc}
-use native.Mathlib.Numerals.{add-one, sub-one}
+use native.Mathlib.Numerals.{sub-one}
 use native.Mathlib.Omega.{arith}
 use borrow.Author.Tests.{not-true, not-false}
 use lib.Ieee.{Float, binary64, ofBits, lt}
 use Rattle.refusal.specs.declared.Refusal.the-variants as No
 use Rattle.refusal.specs.Check.{either}
+use Rattle.seq.specs.Sequence.{every}
+use Rattle.seq.proofs.Every.{every-more, every-not}
 use Rattle.float.specs.Float.{finite, less}
 use Rattle.float.proofs.Order.{less-not, not-less-trans}
 use Rattle.total.specs.declared.Tally.{Tally}
@@ -28,21 +28,6 @@ pub record Summing (ids bits : ℕ → ℕ) (n : ℕ) (t : Tally) (low high : Fl
   pub smallest : low ≡ ofBits binary64 (t .least)
   pub greatest : high ≡ ofBits binary64 (t .greatest)
 
-module _ (bits : ℕ → ℕ) where
-  finite-more : (k : ℕ) → allFinite bits k ≡ true → finite (bits k) ≡ true → allFinite bits (k + 1) ≡ true
-  unfolding allFinite
-  finite-more k a h = rw (add-one k, a, h)
-
-  -- one of the first n is not finite
-  pub not-finite : (n k : ℕ) → k < n → finite (bits k) ≡ false → allFinite bits n ≡ false
-  unfolding allFinite
-  not-finite zero k l h = absurd (omega arith)
-  not-finite (suc n) k l h = go (eq-or-lt-of-le (le-of-suc-le-suc l)) (not-finite n k)
-    where
-      go : (k ≡ n) ⊎ (k < n) → (k < n → finite (bits k) ≡ false → allFinite bits n ≡ false) → (allFinite bits n && finite (bits n)) ≡ false
-      go (inl e) r = rw (← e, h) (and-false (allFinite bits k))
-      go (inr m) r = rw (r m h)
-
 module _ (ids bits : ℕ → ℕ) where
   tally-more : (k : ℕ) → 0 < k → tallyTo ids bits k ≡ stepOf (tallyTo ids bits (k - 1)) (ids k) (bits k)
   unfolding tallyTo
@@ -60,7 +45,7 @@ finite-told v {t} f h = sym f ∙ not-false t h
 module _ (ids bits : ℕ → ℕ) (n : ℕ) where
   pub summing-start : {id v : ℕ} → 0 < n → id ≡ ids 0 → v ≡ bits 0 → finite v ≡ true
       → Summing ids bits n (startOf id v) (ofBits binary64 v) (ofBits binary64 v) 1
-  unfolding tallyTo allFinite startOf
+  unfolding tallyTo every startOf
   summing-start {id} {v} l i e h = record {
     some = omega arith;
     within = l;
@@ -77,7 +62,7 @@ module _ (ids bits : ℕ → ℕ) (n : ℕ) where
   unfolding either
   summing-not {t} {v} {k} l e f h =
       let no : finite (bits k) ≡ false = sym (f ∙ ap finite e) ∙ not-true t h in
-      sym (totals-of ids bits n (omega arith) ∙ rw (not-finite bits n k l no))
+      sym (totals-of ids bits n (omega arith) ∙ rw (every-not (λ i. finite (bits i)) n k l no))
 
   pub summing-all : {t : Tally} {low high : Float} {k : ℕ} → Summing ids bits n t low high k → n ≤ k → totalsOf ids bits n ≡ finish n t
   unfolding either
@@ -110,7 +95,7 @@ module _ {ids bits : ℕ → ℕ} {n : ℕ} {t : Tally} {low high : Float} {k : 
           some = omega arith;
           within = omega arith;
           same = rw (i, e, s .same, ← tally-more ids bits k (s .some)) (ap (tallyTo ids bits) m);
-          finites = finite-more bits k (s .finites) (rw (← e) h);
+          finites = every-more (λ i. finite (bits i)) k (s .finites) (rw (← e) h);
           good = good-step t id v (s .good) h;
           ordered = ordered-step t id v (s .ordered);
           smallest = p;

@@ -1,6 +1,6 @@
 -- Totals over any sequence of entries: entry i has the identifier `ids i` and a value by its bits, `bits i`.
 use Prim.Native.Nat.{ℕ, zero, suc}
-use mathlib.Core.Bool.{Bool, true, not, _&&_}
+use mathlib.Core.Bool.{Bool, true, not}
 use mathlib.Core.List.{List, [], _∷_}
 use mathlib.Core.Path.{_≡_}
 use lib.Dec.{T}
@@ -8,6 +8,7 @@ use lib.Ieee.{binary64, ofBits, toBits, add, isNan}
 use Rattle.refusal.specs.declared.Refusal.the-variants as No
 use Rattle.refusal.specs.Check.{either}
 use Rattle.refusal.specs.Words.{refusedWords}
+use Rattle.seq.specs.Sequence.{every}
 use Rattle.float.specs.Float.{finite, less}
 use Rattle.total.specs.declared.Tally.{Tally}
 use Rattle.total.specs.declared.Totals.{Totals}
@@ -33,9 +34,8 @@ tallyTo ids bits zero = startOf (ids 0) (bits 0)
 tallyTo ids bits (suc k) = stepOf (tallyTo ids bits k) (ids (suc k)) (bits (suc k))
 
 -- each of the first n is finite
-unfoldable pub allFinite : (bits : ℕ → ℕ) → (n : ℕ) → Bool
-allFinite bits zero = true
-allFinite bits (suc n) = allFinite bits n && finite (bits n)
+abbrev pub allFinite : (bits : ℕ → ℕ) → (n : ℕ) → Bool
+allFinite bits n = every (λ k. finite (bits k)) n
 
 -- the answer for n entries
 unfoldable pub finish : (n : ℕ) → Tally → Totals

@@ -54,10 +54,10 @@ module _ (file : List ℕ) (sections : List (List ℕ)) (start end : ℕ) where
         ),
       )
 
-  abbrev pub times : Bool
-  times = rises 0 leastGap (timeAt file start) (samplesOf start end)
+  abbrev pub timesRule : Bool
+  timesRule = rises 0 leastGap (timeAt file start) (samplesOf start end)
 
-  pub times-iff : (times ≡ true) ↔ TimesKept file start end
+  pub times-iff : (timesRule ≡ true) ↔ TimesKept file start end
   times-iff = (
     λ e k l. omega (arith, rises-next 0 leastGap (timeAt file start) (samplesOf start end) e k l),
     λ h. rises-of 0 leastGap (timeAt file start) (samplesOf start end) (λ l. omega arith) (λ k l. omega (arith, h k l)),
@@ -65,7 +65,7 @@ module _ (file : List ℕ) (sections : List (List ℕ)) (start end : ℕ) where
 
   -- they are not kept exactly if one falls
   falls-iff : (TimesKept file start end → ⊥) ↔ TimeFalls file start end
-  falls-iff = (λ broken. go times refl broken, λ t h. omega (arith, t .falls, h (t .k) (t .next)))
+  falls-iff = (λ broken. go timesRule refl broken, λ t h. omega (arith, t .falls, h (t .k) (t .next)))
     where
       at : ((0 < samplesOf start end) × (timeAt file start 0 < 0))
           ⊎ ((k : ℕ) × ((suc k < samplesOf start end) × (timeAt file start (suc k) < timeAt file start k + leastGap)))
@@ -73,23 +73,23 @@ module _ (file : List ℕ) (sections : List (List ℕ)) (start end : ℕ) where
       at (inl (l, h)) = absurd (omega arith)
       at (inr (k, (l, h))) = record { k = k; next = l; falls = omega arith }
 
-      go : (b : Bool) → times ≡ b → (TimesKept file start end → ⊥) → TimeFalls file start end
+      go : (b : Bool) → timesRule ≡ b → (TimesKept file start end → ⊥) → TimeFalls file start end
       go true e broken = absurd (broken (times-iff .0 e))
       go false e broken = at (rises-broken 0 leastGap (timeAt file start) (samplesOf start end) e)
 
   -- a line passes exactly if it lies where it may and no timestamp falls
-  pub line-passes : (lineCheck file sections start end ≡ Passed) ↔ (RangeKept file sections start end × TimesKept file start end)
+  pub check-passes : (lineCheck file sections start end ≡ Passed) ↔ (RangeKept file sections start end × TimesKept file start end)
   unfolding lineCheck
-  line-passes = both-hold (lineRule file sections start end) times range-iff times-iff 7-is-not-11
+  check-passes = both-hold (lineRule file sections start end) timesRule range-iff times-iff 7-is-not-11
 
   -- 7 exactly if it does not lie there
-  pub line-7 : (lineCheck file sections start end ≡ Refused No.Array) ↔ (RangeKept file sections start end → ⊥)
+  pub check-7 : (lineCheck file sections start end ≡ Refused No.Array) ↔ (RangeKept file sections start end → ⊥)
   unfolding lineCheck
-  line-7 = first-broken (lineRule file sections start end) times range-iff times-iff 7-is-not-11
+  check-7 = first-broken (lineRule file sections start end) timesRule range-iff times-iff 7-is-not-11
 
   -- 11 exactly if it lies there and a timestamp falls
-  pub line-11 : (lineCheck file sections start end ≡ Refused No.Order) ↔ (RangeKept file sections start end × TimeFalls file start end)
+  pub check-11 : (lineCheck file sections start end ≡ Refused No.Order) ↔ (RangeKept file sections start end × TimeFalls file start end)
   unfolding lineCheck
-  line-11 =
-      let b = second-broken (lineRule file sections start end) times range-iff times-iff 7-is-not-11 in
+  check-11 =
+      let b = second-broken (lineRule file sections start end) timesRule range-iff times-iff 7-is-not-11 in
       (λ e. (b .0 e .0, falls-iff .0 (b .0 e .1)), λ h. b .1 (h .0, falls-iff .1 (h .1)))

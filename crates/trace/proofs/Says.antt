@@ -43,7 +43,7 @@ module _ (file : List ℕ) (i : ℕ) where
     said : answer place samples ≡ y
 
   module _ (answer : (place samples : ℕ) → Sample) where
-    -- an answer that is no refusal is given of a line that keeps its rules
+    -- an answer that is no refusal is found of a line that keeps its rules
     on-line : (y : Sample) → ((r : Refusal) → Sample.Refused r ≡ y → ⊥) → (onLine Sample.Refused (lineAt file i) answer ≡ y) ↔ OfLine answer y
     unfolding onLine
     on-line y other = (go (lineAt file i) refl, λ h. rw (line-iff file i (h .profile) (h .place) (h .samples) .1 (h .line)) (h .said))
@@ -67,11 +67,11 @@ module _ (file : List ℕ) (i : ℕ) where
         )
 
   module _ (position timestamp context : ℕ) where
-    abbrev given : Sample
-    given = Sample.At position timestamp context
+    abbrev found : Sample
+    found = Sample.At position timestamp context
 
     -- a sample as it is handed out
-    sample-of-iff : (place k : ℕ) → (sampleOf file place k ≡ given)
+    sample-of-iff : (place k : ℕ) → (sampleOf file place k ≡ found)
         ↔ ((k ≡ position) × (timestamp ≡ timeAt file place position) × (context ≡ contextAt file place position))
     unfolding sampleOf
     sample-of-iff place k = (
@@ -84,22 +84,22 @@ module _ (file : List ℕ) (i : ℕ) where
     )
 
     -- sample k is answered exactly if it is there
-    sample-in-iff : (place samples k : ℕ) → (sampleIn file place samples k ≡ given)
-        ↔ ((k < samples) × (sampleOf file place k ≡ given))
+    sample-in-iff : (place samples k : ℕ) → (sampleIn file place samples k ≡ found)
+        ↔ ((k < samples) × (sampleOf file place k ≡ found))
     unfolding sampleIn
     sample-in-iff place samples k =
-        let p = ifPassed-answers Sample.Refused (rule (ltb k samples) No.Index) (sampleOf file place k) given (λ r e. refused-not-at r) in
+        let p = ifPassed-answers Sample.Refused (rule (ltb k samples) No.Index) (sampleOf file place k) found (λ r e. refused-not-at r) in
         let t = rule-passes (ltb k samples) No.Index in
         (λ e. (ltb-true k samples (t .0 (p .0 e .0)), p .0 e .1), λ h. p .1 (t .1 (lt-ltb k samples (h .0)), h .1))
 
-    sample-iff : (k : ℕ) → (sampleAt file i k ≡ given) ↔ ((position ≡ k) × SampleThere file i position timestamp context)
+    sample-iff : (k : ℕ) → (sampleAt file i k ≡ found) ↔ ((position ≡ k) × SampleThere file i position timestamp context)
     unfolding sampleAt
     sample-iff k = (to, from)
       where
-        on : (sampleAt file i k ≡ given) ↔ OfLine (λ place samples. sampleIn file place samples k) given
-        on = on-line (λ place samples. sampleIn file place samples k) given refused-not-at
+        on : (sampleAt file i k ≡ found) ↔ OfLine (λ place samples. sampleIn file place samples k) found
+        on = on-line (λ place samples. sampleIn file place samples k) found refused-not-at
 
-        to : sampleAt file i k ≡ given → (position ≡ k) × SampleThere file i position timestamp context
+        to : sampleAt file i k ≡ found → (position ≡ k) × SampleThere file i position timestamp context
         to e =
             let o = on .0 e in
             let h = sample-in-iff (o .place) (o .samples) k .0 (o .said) in
@@ -116,7 +116,7 @@ module _ (file : List ℕ) (i : ℕ) where
               },
             )
 
-        from : (position ≡ k) × SampleThere file i position timestamp context → sampleAt file i k ≡ given
+        from : (position ≡ k) × SampleThere file i position timestamp context → sampleAt file i k ≡ found
         from (q, s) =
             let p = sample-of-iff (s .place) k .1 (sym q, s .its-timestamp, s .its-context) in
             on .1 (record {
@@ -128,30 +128,30 @@ module _ (file : List ℕ) (i : ℕ) where
             })
 
     -- the search's position is handed out as a sample
-    position-iff : (place : ℕ) (p : Position) → (samplePosition file place p ≡ given)
+    sample-position-iff : (place : ℕ) (p : Position) → (samplePosition file place p ≡ found)
         ↔ ((p ≡ At position) × (timestamp ≡ timeAt file place position) × (context ≡ contextAt file place position))
     unfolding samplePosition
-    position-iff place (At k) = (
+    sample-position-iff place (At k) = (
       λ e. let s = sample-of-iff place k .0 e in (ap At (s .0), s .1, s .2),
       λ h. let e = h .0 in let q : k ≡ position = cc in sample-of-iff place k .1 (q, h .1, h .2),
     )
-    position-iff place Nowhere = (
+    sample-position-iff place Nowhere = (
       λ e. let z : _≡_ {A = ℕ} 0 1 = cc in absurd (omega arith),
       λ h. let e = h .0 in let z : _≡_ {A = ℕ} 0 1 = cc in absurd (omega arith),
     )
 
     -- a sample is answered for a time exactly if it is the last that is not later
-    last-sample-iff : (time : ℕ) → (lastAt file i time ≡ given) ↔ LastNotLater file i time position timestamp context
+    last-sample-iff : (time : ℕ) → (lastAt file i time ≡ found) ↔ LastNotLater file i time position timestamp context
     unfolding lastAt lastIn
     last-sample-iff time = (to, from)
       where
-        on : (lastAt file i time ≡ given) ↔ OfLine (λ place samples. lastIn file place samples time) given
-        on = on-line (λ place samples. lastIn file place samples time) given refused-not-at
+        on : (lastAt file i time ≡ found) ↔ OfLine (λ place samples. lastIn file place samples time) found
+        on = on-line (λ place samples. lastIn file place samples time) found refused-not-at
 
-        to : lastAt file i time ≡ given → LastNotLater file i time position timestamp context
+        to : lastAt file i time ≡ found → LastNotLater file i time position timestamp context
         to e =
             let o = on .0 e in
-            let h = position-iff (o .place) (lastUpTo (timeAt file (o .place)) time (o .samples)) .0 (o .said) in
+            let h = sample-position-iff (o .place) (lastUpTo (timeAt file (o .place)) time (o .samples)) .0 (o .said) in
             let l = last-iff (timeAt file (o .place)) time (o .samples) position .0 (h .0) in
             record {
               sample = record {
@@ -167,7 +167,7 @@ module _ (file : List ℕ) (i : ℕ) where
               later-behind = l .2;
             }
 
-        from : LastNotLater file i time position timestamp context → lastAt file i time ≡ given
+        from : LastNotLater file i time position timestamp context → lastAt file i time ≡ found
         from l =
             let s = l .sample in
             let p = last-iff (timeAt file (s .place)) time (s .samples) position .1 (s .within, rw (s .its-timestamp) at (l .not-later), l .later-behind) in
@@ -176,13 +176,13 @@ module _ (file : List ℕ) (i : ℕ) where
               place = s .place;
               samples = s .samples;
               line = s .line;
-              said = position-iff (s .place) (lastUpTo (timeAt file (s .place)) time (s .samples)) .1 (p, s .its-timestamp, s .its-context);
+              said = sample-position-iff (s .place) (lastUpTo (timeAt file (s .place)) time (s .samples)) .1 (p, s .its-timestamp, s .its-context);
             })
 
   -- none is answered exactly if all are later
-  absent-iff : (time : ℕ) → (lastAt file i time ≡ Sample.Absent) ↔ AllLater file i time
+  absent-sample-iff : (time : ℕ) → (lastAt file i time ≡ Sample.Absent) ↔ AllLater file i time
   unfolding lastAt lastIn samplePosition
-  absent-iff time = (to, from)
+  absent-sample-iff time = (to, from)
     where
       on : (lastAt file i time ≡ Sample.Absent) ↔ OfLine (λ place samples. lastIn file place samples time) Sample.Absent
       on = on-line (λ place samples. lastIn file place samples time) Sample.Absent (λ r e. let z : _≡_ {A = ℕ} 0 1 = cc in omega arith)
@@ -253,7 +253,7 @@ module _ (file : List ℕ) (i : ℕ) where
     sample = λ k position timestamp context. sample-iff position timestamp context k;
     sample-11 = λ k. of-line-11 (λ place samples. sampleIn file place samples k) (sample-never-11 k);
     last = λ time position timestamp context. last-sample-iff position timestamp context time;
-    absent = absent-iff;
+    absent = absent-sample-iff;
     last-11 = λ time. of-line-11 (λ place samples. lastIn file place samples time) (last-never-11 time);
   }
 
