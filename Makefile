@@ -34,15 +34,19 @@ check: lib
 	$(call NEEDS,gcc g++ cargo)
 	@$(C) -o target/lookup tests/lookup.c $(LIB)
 	@$(C) -o target/api tests/api.c $(LIB)
+	@$(C) -o target/write tests/write.c $(LIB)
 	@g++ -x c++ -std=c++11 -Wall -Wextra -Wpedantic -Werror -fsyntax-only include/hpcdb.h
 	@mkdir -p target/readme
-	@sed -n '/^    #include <stdio.h>/,/^Nothing has/s/^    //p' README.md > target/readme/read.c
+	@sed -n '/^    #include <stdio.h>/,/^Nothing has/{s/^    //p;/^Nothing has/q}' README.md > target/readme/read.c
 	@$(C) -o target/readme/read target/readme/read.c $(LIB)
+	@sed -n '/^### Write/,/^## Check/s/^    //p' README.md > target/readme/write.c
+	@$(C) -o target/readme/write target/readme/write.c $(LIB)
 	@cp crates/block_cases/data/p-b.db target/readme/profile.db
 	@cp crates/listing/stdin target/readme/meta.db
 	@target/lookup
 	@target/api
-	@cd target/readme && ./read | diff - ../../tests/readme.out
+	@target/write
+	@cd target/readme && { ./read && ./write; } | diff - ../../tests/readme.out
 	@$(CARGO) test --quiet --release --manifest-path $(DIFFERENTIAL)
 	@$(CARGO) run --quiet --release --manifest-path $(DIFFERENTIAL) --bin differential
 	@$(BENCH) --compare
@@ -66,3 +70,4 @@ cases:
 	python3 tools/walk_cases.py
 	python3 tools/block_cases.py
 	python3 tools/record_cases.py
+	python3 tools/write_cases.py

@@ -1,4 +1,4 @@
-/* libhpcdb: a proved reader of HPCToolkit 4.0 databases (meta.db, profile.db, cct.db, trace.db).
+/* libhpcdb: a proved reader and writer of HPCToolkit 4.0 databases (reads meta.db, profile.db, cct.db, trace.db; writes profile.db).
  *
  * A file is lent as a pointer and a length. Its bytes may be any bytes, and the numbers beside it any numbers: nothing needs to be checked
  * before a call, every call ends, and no memory is touched but what this page says. No function allocates, and none keeps anything
@@ -7,10 +7,11 @@
  * What a caller must keep to:
  *   - a pointer leads to at least as many bytes or words as the length beside it says, words aligned as uint64_t is;
  *   - `out` leads to as many words as its declaration has;
- *   - what is lent to be written (out, listing, table, records, answers) overlaps nothing else that is lent, and no other thread reads or
- *     writes it during the call; files and pairs, which are only read, may be shared by any number of calls;
- *   - the file's bytes do not change during a call. A file that is mapped (mmap) may be changed or cut by another process: then what is
- *     read may be part old and part new, or the process is stopped by a signal. Read it into memory where that can happen;
+ *   - what is lent to be written (out, listing, table, records, answers, the file of hpcdb_profile_write) overlaps nothing else that is
+ *     lent, and no other thread reads or writes it during the call; files, pairs and lists, which are only read, may be shared by any
+ *     number of calls;
+ *   - the bytes that are only read do not change during a call. A file that is mapped (mmap) may be changed or cut by another process:
+ *     then what is read may be part old and part new, or the process is stopped by a signal. Read it into memory where that can happen;
  *   - the floating-point environment is the default one: round to nearest even, subnormal numbers kept. Under another one the totals of
  *     hpcdb_cct_totals may be others; no other function computes with floating-point numbers.
  * A pointer beside the length 0 may be null: nothing is read or written through it.
@@ -27,9 +28,9 @@
 /* The version of the library, which is not that of the format. The second number rises with a change of a declaration here, or of what a
  * code is given for. */
 #define HPCDB_VERSION_MAJOR 0
-#define HPCDB_VERSION_MINOR 3
+#define HPCDB_VERSION_MINOR 4
 #define HPCDB_VERSION_PATCH 0
-#define HPCDB_LIBRARY_VERSION "0.3.0"
+#define HPCDB_LIBRARY_VERSION "0.4.0"
 
 #ifdef __cplusplus
 extern "C" {
@@ -44,29 +45,32 @@ enum hpcdb_code {
     HPCDB_FOOTER = 4,      /* last eight bytes differ (never for trace.db) */
     HPCDB_SECTION = 5,     /* a section rule is broken */
     HPCDB_STRIDE = 6,      /* a stride is too small, or not a multiple of 8 */
-    HPCDB_ARRAY = 7,       /* an array, block, trace line or tuple breaks its range rule */
+    HPCDB_ARRAY = 7,       /* an array, block, trace line or tuple breaks its range rule; a list to be written, or a profile's set of
+                            * contexts, is too long for its count */
     HPCDB_STRING = 8,      /* a string outside its section, or without NUL before the section's end */
     HPCDB_LINK = 9,        /* a link that leads to no element; a function whose name, module and file are all 0; a context's link that is
                             * present and 0 */
     HPCDB_CONTEXT = 10,    /* a context that does not fit, or has too few flex words */
-    HPCDB_ORDER = 11,      /* a start or order rule of a block is broken; a timestamp of a trace line falls */
+    HPCDB_ORDER = 11,      /* a start or order rule of a block is broken; a timestamp of a trace line falls; entries to be written are not
+                            * strictly sorted */
     HPCDB_DEEP = 12,       /* a context at depth 201; roots have depth 1 */
     HPCDB_SLOT = 13,       /* a ctxId not below the table's length */
     HPCDB_TWICE = 14,      /* a ctxId that was met before */
-    HPCDB_INDEX = 15,      /* a position that is not below its count */
+    HPCDB_INDEX = 15,      /* a position that is not below its count; a profile, tuple or identification that is not among those to be
+                            * written */
     HPCDB_NOT_FINITE = 16, /* infinity or NaN among the values of a total */
-    HPCDB_ROOM = 17,       /* fewer than 8 lent bytes for a value, or too few answers for the pairs */
+    HPCDB_ROOM = 17,       /* fewer than 8 lent bytes for a value, too few answers for the pairs, or too few bytes for a written file */
     HPCDB_ABSENT = 100,    /* the file opens, the asked block or line is sound, and there is no such thing in it; no other block, line or
                             * tuple of the file was looked at */
     HPCDB_CUT = 101        /* a walk listed as many contexts as there was room for, and there are more */
 };
 
-/* Every function may return 1 to 7, by which opening refuses the file. What else it may return stands beside it.
+/* Every function that reads a file may return 1 to 7, by which opening refuses it. What else it may return stands beside it.
  *
  * What a call costs: each one opens the file, which takes the same time for any file (tens of nanoseconds). Names, counts and tuples cost
  * that and the length of their strings. A lookup or a total checks the whole block of its profile or context, a sample its whole line:
  * time in proportion to the values or samples in it. So many values of one block are asked by one hpcdb_*_lookup_many, which checks the
- * block once. A walk visits each context once. */
+ * block once. A walk visits each context once. hpcdb_profile_write takes time in proportion to its lists. */
 
 /* ---- meta.db */
 
@@ -211,7 +215,7 @@ uint32_t hpcdb_profile_open(const uint8_t *file, size_t file_length, uint64_t ou
 uint32_t hpcdb_profile_tuple(const uint8_t *file, size_t file_length, uint64_t profile, uint64_t out[1]);
 
 /* Identification k of it. INDEX, ARRAY. */
-enum hpcdb_identifier {
+enum hpcdb_identifier_word {
     HPCDB_IDENTIFIER_KIND,
     HPCDB_IDENTIFIER_FLAGS, /* all 16 bits; bit 0 is isPhysical */
     HPCDB_IDENTIFIER_LOGICAL,
@@ -232,6 +236,45 @@ uint32_t hpcdb_profile_lookup(const uint8_t *file, size_t file_length, uint64_t 
  * untouched. Any other code: all words are. ROOM, before all else, if there are not two words for each pair; INDEX, ARRAY, ORDER. */
 uint32_t hpcdb_profile_lookup_many(const uint8_t *file, size_t file_length, uint64_t profile, const uint64_t *pairs,
                                    size_t pairs_length, uint64_t *answers, size_t answers_length);
+
+/* An identification of a tuple, and an entry, as hpcdb_profile_write takes them. Arrays of them are passed as bytes, which on a
+ * little-endian machine are those of the structs: (const uint8_t *)entries, n * sizeof *entries. The fields are as wide as the file's:
+ * a position or an id that was kept in a wider one must fit. */
+struct hpcdb_identifier {
+    uint8_t kind;
+    uint8_t reserved; /* ignored */
+    uint16_t flags;   /* all 16 bits are written */
+    uint32_t logical_id;
+    uint64_t physical_id;
+};
+struct hpcdb_entry {
+    uint32_t profile; /* its position among the profiles */
+    uint32_t context;
+    uint16_t metric;
+    uint16_t reserved[3]; /* ignored */
+    uint64_t bits;        /* of the value, a double: memcpy(&entry.bits, &value, 8); any bits are written */
+};
+typedef char hpcdb_identifier_has_16_bytes[sizeof(struct hpcdb_identifier) == 16 ? 1 : -1];
+typedef char hpcdb_entry_has_24_bytes[sizeof(struct hpcdb_entry) == 24 ? 1 : -1];
+
+/* Writes a profile.db, version 4.0 with the least strides, to the first bytes of `file`. out: its length. The bytes behind it are
+ * untouched. It opens, has these profiles, each with its tuple, and a value where there is an entry, with its bits, and nowhere else.
+ * Every byte follows from the lists, by docs/LAYOUT.md.
+ *   profiles      word p is the position of profile p's tuple among the tuples; profiles may share one. (To HPCToolkit the first is the
+ *                 summary profile; nothing here treats it otherwise.) profiles_length and tuples_length count words;
+ *   tuples        word j is how many identifications tuple j has; a tuple that no profile names is written too;
+ *   identifiers   16 bytes for each identification, those of all tuples one after the other; what is behind them is ignored;
+ *   entries       24 bytes for each; a last piece under 24 bytes is none. A profile may have no entry. identifiers_length and
+ *                 entries_length count bytes, and not elements.
+ * Any other code: `file` is as it was too. In this order, each for all the lists before the next:
+ *   INDEX   an entry's profile or a profile's tuple is not there, or fewer identifications than the tuples have together;
+ *   ORDER   the entries do not strictly rise by profile, context, metric;
+ *   ARRAY   2^32 profiles or more, a tuple of 65,536 identifications or more, a profile with 2^32 contexts;
+ *   ROOM    the file is longer than file_length. 72 + 40 profiles_length + 8 tuples_length + identifiers_length + entries_length bytes
+ *           are always enough. */
+uint32_t hpcdb_profile_write(const uint64_t *profiles, size_t profiles_length, const uint64_t *tuples, size_t tuples_length,
+                             const uint8_t *identifiers, size_t identifiers_length, const uint8_t *entries, size_t entries_length,
+                             uint8_t *file, size_t file_length, uint64_t out[1]);
 
 /* ---- cct.db */
 

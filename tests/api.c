@@ -1,4 +1,4 @@
-/* Calls every function of libhpcdb.a on the sample files, with answers written by hand, and with null pointers for nothing. */
+/* Calls every reading function of libhpcdb.a on the sample files, with answers written by hand, and with null pointers for nothing. */
 #include "../include/hpcdb.h"
 #include <stdio.h>
 #include <stdlib.h>

@@ -664,28 +664,6 @@ totals("c-full", f, (0, 1000, (2000, 1, 0.1, 1, 0.1, 199.99999999999292)), (0, 2
 
 
 # ---- at random
-class Dice:
-    def __init__(self, seed):
-        self.state = seed
-
-    def below(self, n):
-        self.state = (self.state * 6364136223846793005 + 1442695040888963407) % END
-        return (self.state >> 33) % n
-
-    def of(self, choices):
-        return choices[self.below(len(choices))]
-
-    def mix(self, items):
-        items = list(items)
-        for i in range(len(items) - 1, 0, -1):
-            j = self.below(i + 1)
-            items[i], items[j] = items[j], items[i]
-        return items
-
-    def bits(self):
-        return self.below(2 ** 31) << 33 ^ self.below(2 ** 31) << 15 ^ self.below(2 ** 15)
-
-
 def some_ids(dice, n, least, top):
     """n ids from least to below top, rising"""
     ids = set()

@@ -17,6 +17,29 @@ def number(file, at, width):
     return int.from_bytes(file[at:at + width], "little")
 
 
+class Dice:
+    """Numbers that look like chance, the same in every run"""
+    def __init__(self, seed):
+        self.state = seed
+
+    def below(self, n):
+        self.state = (self.state * 6364136223846793005 + 1442695040888963407) % END
+        return (self.state >> 33) % n
+
+    def of(self, choices):
+        return choices[self.below(len(choices))]
+
+    def mix(self, items):
+        items = list(items)
+        for i in range(len(items) - 1, 0, -1):
+            j = self.below(i + 1)
+            items[i], items[j] = items[j], items[i]
+        return items
+
+    def bits(self):
+        return self.below(2 ** 31) << 33 ^ self.below(2 ** 31) << 15 ^ self.below(2 ** 15)
+
+
 MAGIC = {"meta": b"HPCTOOLKITmeta", "profile": b"HPCTOOLKITprof", "cct": b"HPCTOOLKITctxt", "trace": b"HPCTOOLKITtrce"}
 FOOTER = {"meta": b"_meta.db", "profile": b"_prof.db", "cct": b"__ctx.db", "trace": None}
 HEADER = {"meta": 144, "profile": 48, "cct": 32, "trace": 32}
@@ -469,3 +492,48 @@ def trace_at(file, i, t):
         if sample[0] <= t:
             found = ("sample", k) + sample
     return found
+
+
+# ---- writing a profile.db
+def pieces(data, size):
+    """Those that are whole"""
+    return [data[at:at + size] for at in range(0, len(data) - size + 1, size)]
+
+
+def profile_block(rows, place):
+    """The header and the bytes of a block that is to stand at a place. A row is context, metric and bits."""
+    if not rows:
+        return bytes(32), b""
+    contexts = [context for context, _, _ in rows]
+    values = b"".join(u(2, metric) + u(8, bits) for _, metric, bits in rows)
+    values += bytes(-len(values) % 4)
+    indices = b"".join(u(4, context) + u(8, contexts.index(context)) for context in sorted(set(contexts)))
+    return u(8, len(rows)) + u(8, place) + u(4, len(set(contexts))) + bytes(4) + u(8, place + len(values)), values + indices
+
+
+def write_profile(profiles, tuples, identifiers, entries, room):
+    """The file that the lists make, as they are lent: numbers, numbers, bytes, bytes; `room` bytes are lent for it."""
+    ids, rows = pieces(identifiers, 16), [struct.unpack("<IIH6xQ", entry) for entry in pieces(entries, 24)]
+    if sum(tuples) > len(ids) or any(t >= len(tuples) for t in profiles) or any(row[0] >= len(profiles) for row in rows):
+        raise Refused(15)
+    if not rising([row[:3] for row in rows]):
+        raise Refused(11)
+    of_profile = [[row[1:] for row in rows if row[0] == p] for p in range(len(profiles))]
+    contexts = max((len({row[0] for row in own}) for own in of_profile), default=0)
+    if len(profiles) >= 2 ** 32 or max(tuples, default=0) >= 2 ** 16 or contexts >= 2 ** 32:
+        raise Refused(7)
+    base = 64 + 40 * len(profiles)
+    section, places = b"", []
+    for count in tuples:
+        places.append(base + len(section))
+        section += u(2, count) + bytes(6) + b"".join(one[:1] + b"\0" + one[2:] for one in ids[:count])
+        ids = ids[count:]
+    infos, blocks = b"", b""
+    for own, t in zip(of_profile, profiles):
+        header, data = profile_block(own, base + len(section) + len(blocks))
+        infos, blocks = infos + header + u(8, places[t]), blocks + data
+    file = front("profile", [(48, 16 + len(infos)), (base if section else 0, len(section))])
+    file += array(64 if profiles else 0, len(profiles), 40, 1) + bytes(3) + infos + section + blocks + FOOTER["profile"]
+    if len(file) > room:
+        raise Refused(17)
+    return file

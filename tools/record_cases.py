@@ -497,30 +497,7 @@ for f, m in (TUPLES, TUPLES_MADE), made[3]:
             case("c-" + name, file, f"contexts 0 0 refused {n}")
 case("t-empty", b"", "header 0 0 refused 1; at 9 9 refused 1; profiles 0 0 refused 1; contexts 0 0 refused 1; identifier 9 9 refused 1")
 
-
 # ---- at random
-class Dice:
-    def __init__(self, seed):
-        self.state = seed
-
-    def below(self, n):
-        self.state = (self.state * 6364136223846793005 + 1442695040888963407) % END
-        return (self.state >> 33) % n
-
-    def of(self, choices):
-        return choices[self.below(len(choices))]
-
-    def mix(self, items):
-        items = list(items)
-        for i in range(len(items) - 1, 0, -1):
-            j = self.below(i + 1)
-            items[i], items[j] = items[j], items[i]
-        return items
-
-    def bits(self):
-        return self.below(2 ** 31) << 33 ^ self.below(2 ** 31) << 15 ^ self.below(2 ** 15)
-
-
 dice = Dice(20240523)
 for i in range(6):
     m, truth, count = Maker("trace"), [], 1 + dice.below(5)

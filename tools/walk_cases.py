@@ -371,25 +371,6 @@ case("bytes-32769", f, "too long")
 
 
 # ---- 12. trees at random
-class Dice:
-    def __init__(self, seed):
-        self.state = seed
-
-    def below(self, n):
-        self.state = (self.state * 6364136223846793005 + 1442695040888963407) % END
-        return (self.state >> 33) % n
-
-    def of(self, choices):
-        return choices[self.below(len(choices))]
-
-    def mix(self, items):
-        items = list(items)
-        for i in range(len(items) - 1, 0, -1):
-            j = self.below(i + 1)
-            items[i], items[j] = items[j], items[i]
-        return items
-
-
 def grown(dice):
     """Roots, and all contexts."""
     count = 20 + dice.below(101)

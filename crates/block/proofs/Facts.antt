@@ -32,7 +32,7 @@ use Rattle.block.proofs.Order.{order-iff}
 
 -- ---- the check of a block
 
-none-or-some : (n : ℕ) → (n ≡ 0) ⊎ (0 < n)
+pub none-or-some : (n : ℕ) → (n ≡ 0) ⊎ (0 < n)
 none-or-some zero = inl refl
 none-or-some (suc n) = inr (omega arith)
 

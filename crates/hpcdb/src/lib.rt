@@ -20,6 +20,7 @@ ghost use Rattle.cct.specs.Totals.{cctTotals};
 ghost use Rattle.block.specs.Block.{lookupWords};
 ghost use Rattle.lookup.specs.Lookup.{profileLookup, cctLookup};
 ghost use Rattle.batch.specs.Batch.{profileBatch, cctBatch};
+ghost use Rattle.profile_writer.specs.Write.{writeAnswer, writeFile, writtenWords};
 ghost use Rattle.words.specs.Convention.{wordsIn, sectionsWords, countsWords};
 ghost use Rattle.hpcdb.specs.Value.{valueIn, valueCode, valueBytes};
 use block::Lookup;
@@ -335,6 +336,28 @@ pub extern "C" fn hpcdb_trace_at(file: &[u8], i: u64, time: u64, out: &mut [u64;
     words::put_last(trace::last_at(file, i, time), out)
 }
 
+// ---- a new profile.db
+
+// Request 2026-02: the file's length.
+#[no_mangle]
+pub extern "C" fn hpcdb_profile_write(
+    profiles: &[u64],
+    tuples: &[u64],
+    identifiers: &[u8],
+    entries: &[u8],
+    file: &mut [u8],
+    out: &mut [u64; 1],
+) -> u32
+    ensures code { λ r. ⌜ r ≡ codeIn (writtenWords (writeAnswer (now (profiles .entry)) (now (tuples .entry)) (now (identifiers .entry)) (now (entries .entry)) (length (now (file .entry))))) ⌝ }
+    ensures words { λ _. ⌜ now (out .exit) ≡ wordsIn (now (out .entry)) (writtenWords (writeAnswer (now (profiles .entry)) (now (tuples .entry)) (now (identifiers .entry)) (now (entries .entry)) (length (now (file .entry))))) ⌝ }
+    ensures bytes { λ _. ⌜ now (file .exit) ≡ writeFile (now (profiles .entry)) (now (tuples .entry)) (now (identifiers .entry)) (now (entries .entry)) (now (file .entry)) ⌝ }
+{
+    words::put_written(
+        profile_writer::write(profiles, tuples, identifiers, entries, file),
+        out,
+    )
+}
+
 // ---- lookups
 
 // The code, and the value in the first eight bytes.
@@ -345,7 +368,7 @@ fn put_value(answer: Lookup, out: &mut [u8]) -> u32
 {
     match answer {
         Lookup::Found(bits) => {
-            put::number(out, 0, 8, bits);
+            put::store_u64(out, 0, bits);
             0
         }
         Lookup::Absent => 100,

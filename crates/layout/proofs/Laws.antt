@@ -1,7 +1,7 @@
 -- What stands in a file, by its parts, and what is read there: a number that was laid out is read back.
 use Prim.Native.Nat.{ℕ, zero, suc, _+_, _/_, _^_, _≤_, _<_}
 use mathlib.Core.Path.{_≡_, refl, sym, ap, _∙_}
-use mathlib.Core.List.{List, [], _∷_, _++_}
+use mathlib.Core.List.{List, [], _∷_, _++_, append-assoc}
 use native.Mathlib.Nat.{pow-suc, add-zero, le-of-suc-le-suc, not-suc-le-zero}
 use native.Mathlib.Omega.{arith}
 use lib.ListN.{length, take, drop, length-append}
@@ -26,6 +26,11 @@ pub length-fields : (fs : List Field) → length (fields fs) ≡ sizeOf fs
 unfolding fields
 length-fields [] = refl
 length-fields (f ∷ fs) = rw (length-append, length-bytes, length-fields fs)
+
+pub fields-append : (fs gs : List Field) → fields (fs ++ gs) ≡ fields fs ++ fields gs
+unfolding fields
+fields-append [] gs = refl
+fields-append (f ∷ fs) gs = rw (fields-append fs gs, append-assoc)
 
 -- ---- by parts
 

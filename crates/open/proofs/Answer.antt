@@ -1,5 +1,5 @@
 -- The parts of an answer: one pair, headers with nothing to check, and what an entry point hands back.
-use Prim.Native.Nat.{ℕ, zero, suc, _+_, _≤_, _<_}
+use Prim.Native.Nat.{ℕ, _+_, _≤_, _<_}
 use mathlib.Core.Bool.{Bool, true, false}
 use mathlib.Core.List.{List, [], _∷_}
 use mathlib.Core.Path.{_≡_, refl, sym, ap, _∙_}
@@ -16,17 +16,9 @@ use Rattle.refusal.specs.declared.Check.the-variants.{Passed, Refused}
 use Rattle.refusal.specs.Check.{either, rule, first, codeOf, ifPassed}
 use Rattle.refusal.proofs.Checks.{not-both}
 use Rattle.open.specs.Format.{Format, section, nothing, profile, cct}
-use Rattle.open.specs.Opening.{placeFor, pairAt, pairsFrom, pairs, headerRule, headerCheck, strideRules, contentRule, frontRules, openingWith, opening, blank, pairsRead, onOpened, opened}
+use Rattle.open.specs.Opening.{pairAt, pairsFrom, pairs, headerRule, headerCheck, strideRules, contentRule, frontRules, openingWith, opening, blank, pairsRead, onOpened, opened}
 use Rattle.open.specs.Kept.{Sections}
-
-place-some : (size pointer : ℕ) → (size ≡ 0 → ⊥) → placeFor size pointer ≡ pointer
-unfolding placeFor
-place-some zero pointer h = absurd (h refl)
-place-some (suc n) pointer h = refl
-
-place-none : (size pointer : ℕ) → size ≡ 0 → placeFor size pointer ≡ 0
-unfolding placeFor
-place-none size pointer e = rw e
+use Rattle.open.proofs.Pointers.{place-none, place-some}
 
 module _ (file : List ℕ) (entry size : ℕ) (s : size ≡ number 8 file entry) where
   pub pair-none : size ≡ 0 → 0 ∷ size ∷ [] ≡ pairAt file entry
@@ -35,7 +27,7 @@ module _ (file : List ℕ) (entry size : ℕ) (s : size ≡ number 8 file entry)
 
   pub pair-some : (place : ℕ) → (size ≡ 0 → ⊥) → place ≡ number 8 file (entry + 8) → place ∷ size ∷ [] ≡ pairAt file entry
   unfolding pairAt
-  pair-some place n p = rw (← s, place-some size (number 8 file (entry + 8)) n, p)
+  pair-some place n p = rw (← s, place-some size (number 8 file (entry + 8)) (omega arith), p)
 
 -- what is read of a file that has its header, or has not
 module _ (f : Format) (file : List ℕ) where

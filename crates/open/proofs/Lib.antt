@@ -1,3 +1,4 @@
+pub mod Pointers
 pub mod Answer
 pub mod Keeps
 pub mod Inside

@@ -38,7 +38,7 @@ pub const ID_TUPLES: usize = 1;
 
 const META: [u8; 14] = *b"HPCTOOLKITmeta";
 
-const PROFILE: [u8; 14] = *b"HPCTOOLKITprof";
+pub const PROFILE: [u8; 14] = *b"HPCTOOLKITprof";
 
 const CCT: [u8; 14] = *b"HPCTOOLKITctxt";
 
@@ -46,7 +46,7 @@ const TRACE: [u8; 14] = *b"HPCTOOLKITtrce";
 
 const META_FOOTER: [u8; 8] = *b"_meta.db";
 
-const PROFILE_FOOTER: [u8; 8] = *b"_prof.db";
+pub const PROFILE_FOOTER: [u8; 8] = *b"_prof.db";
 
 const CCT_FOOTER: [u8; 8] = *b"__ctx.db";
 

@@ -31,6 +31,10 @@ module _ (p : ℕ → Bool) where
   unfolding every
   every-more n h e = rw (add-one, h, e)
 
+  pub every-next : (n : ℕ) → every p (n + 1) ≡ (every p n && p n)
+  unfolding every
+  every-next n = rw (add-one n)
+
   pub every-at : (n : ℕ) → every p n ≡ true → (k : ℕ) → k < n → p k ≡ true
   unfolding every
   every-at zero h k l = absurd (not-suc-le-zero l)

@@ -1,4 +1,5 @@
 pub mod Every
+pub mod Sum
 pub mod Rising
 pub mod Search
 pub mod Lists

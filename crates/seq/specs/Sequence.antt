@@ -12,6 +12,11 @@ unfoldable pub every : (ℕ → Bool) → (n : ℕ) → Bool
 every test zero = true
 every test (suc n) = every test n && test n
 
+-- f 0 + .. + f (n - 1)
+unfoldable pub sum : (ℕ → ℕ) → (n : ℕ) → ℕ
+sum f zero = 0
+sum f (suc n) = sum f n + f n
+
 -- the least that f k may be: `least` at first, and then `gap` more than the one before it
 unfoldable pub floor : (least gap : ℕ) → (ℕ → ℕ) → (k : ℕ) → ℕ
 floor least gap f zero = least

@@ -13,6 +13,7 @@ ghost use Rattle.count.specs.Count.{countWords};
 ghost use Rattle.tuple.specs.Tuple.{tupleWords, identifierWords};
 ghost use Rattle.trace.specs.Trace.{lineWords, sampleWords, lastWords};
 ghost use Rattle.total.specs.Totals.{totalsWords};
+ghost use Rattle.profile_writer.specs.Write.{writtenWords};
 ghost use Rattle.words.specs.Convention.{wordsIn};
 use count::Count;
 use function::Function;
@@ -20,6 +21,7 @@ use meta::SourceFile;
 use metric::Metric;
 use metric::Scope;
 use metric::Summary;
+use profile_writer::Written;
 use text::Text;
 use total::Totals;
 use trace::Line;
@@ -160,6 +162,20 @@ pub fn put_count(answer: Count, out: &mut [u64; 1]) -> u32
             0
         }
         Count::Refused(r) => code(r),
+    }
+}
+
+// The length of a written file.
+pub fn put_written(answer: Written, out: &mut [u64; 1]) -> u32
+    ensures { λ r. ⌜ r ≡ codeIn (writtenWords answer) ⌝ }
+    ensures { λ _. ⌜ now (out .exit) ≡ wordsIn (now (out .entry)) (writtenWords answer) ⌝ }
+{
+    match answer {
+        Written::Of(length) => {
+            *out = [length];
+            0
+        }
+        Written::Refused(r) => code(r),
     }
 }
 

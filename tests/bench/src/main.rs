@@ -25,7 +25,9 @@ fn main() -> ExitCode {
         return ExitCode::from(2);
     }
     let mut run = Run::new(timed, wanted);
-    for group in [rows::walks, rows::single_lookups, rows::batch_lookups, rows::openings, rows::small_answers] {
+    for group in
+        [rows::walks, rows::single_lookups, rows::batch_lookups, rows::openings, rows::small_answers, rows::writes]
+    {
         group(&mut run);
     }
     if run.rows == 0 {

@@ -1,10 +1,13 @@
 //! The rows of the table, group by group: the files, and what is asked of them.
 
+use std::hint::black_box;
+
 use differential::gen::large;
 use differential::reader::walk::RECORD_WORDS;
+use differential::{by_reader, ffi, writer};
 
 use crate::questions::{random_numbers, random_pairs, regular_pairs, sorted, Ids};
-use crate::run::{row, Run};
+use crate::run::{row, Run, Side};
 
 const MILLION: usize = 1_000_000;
 
@@ -138,4 +141,33 @@ pub fn small_answers(run: &mut Run) {
     let what = "trace_at in a line of 1,000,000 samples";
     let times = random_numbers(FEW, large::SAMPLE_INTERVAL * MILLION as u64);
     row!(run, what, &times, [UNWRITTEN; 3], |&time, out| hpcdb_trace_at(&file, 0, time, out));
+}
+
+#[derive(Clone, PartialEq)]
+struct WriteMemory {
+    file: Vec<u8>,
+    out: [u64; 1],
+}
+
+/// There is no writer in plain C; what stands for it copies the finished file.
+pub fn writes(run: &mut Run) {
+    for (contexts, metrics) in [(100, 100), (2500, 4)] {
+        let (survey, entries) = large::survey(100, contexts, metrics);
+        let lists = survey.lists(&entries);
+        let length = writer::length(&lists).expect("the lists are sound");
+        let memory = WriteMemory { file: vec![UNWRITTEN as u8; length + 1], out: [UNWRITTEN] };
+        let mut finished = memory.clone();
+        by_reader::hpcdb_profile_write(&lists, &mut finished.file, &mut finished.out);
+        let what =
+            format!("write of 1,000,000 entries in 100 profiles, {metrics} to a context (plain C: memcpy of it)");
+        run.row(&what, &[()], memory, |side, _, m| match side {
+            Side::Library => ffi::hpcdb_profile_write(black_box(&lists), &mut m.file, &mut m.out),
+            Side::RustReader => by_reader::hpcdb_profile_write(black_box(&lists), &mut m.file, &mut m.out),
+            Side::PlainC => {
+                m.file[..length].copy_from_slice(&black_box(&finished).file[..length]);
+                m.out = finished.out;
+                0
+            }
+        });
+    }
 }

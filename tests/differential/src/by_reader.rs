@@ -1,7 +1,9 @@
-//! The functions of the C interface as the reader answers them: names, arguments, codes and words are those of `ffi`.
+//! The functions of the C interface as the reader and the writer answer them: names, arguments, codes and words are
+//! those of `ffi`.
 
 use crate::reader::walk::{End, Walked};
 use crate::reader::{cct, meta, profile, trace, walk, Refusal, Span, Text};
+use crate::writer::{self, Lists};
 
 pub const ANSWERED: u32 = 0;
 pub const ABSENT: u32 = 100;
@@ -216,4 +218,8 @@ pub fn hpcdb_profile_lookup_many(file: &[u8], profile: u64, pairs: &[u64], answe
 
 pub fn hpcdb_cct_lookup_many(file: &[u8], context: u64, pairs: &[u64], answers: &mut [u64]) -> u32 {
     batch_code(cct::lookup_many(file, context, pairs, answers))
+}
+
+pub fn hpcdb_profile_write(lists: &Lists, file: &mut [u8], out: &mut [u64; 1]) -> u32 {
+    written(writer::write(lists, file).map(|length| Some([length])), out)
 }

@@ -2,6 +2,8 @@
 //! slice is lent as a pointer and a length, `out` as a pointer to just so many words; all answer with a code. Sentinels
 //! around what is lent are `lent`'s.
 
+use crate::writer::Lists;
+
 /// Functions that lend nothing but the file and `out`, with the numbers that they take.
 macro_rules! word_functions {
     ($($name:ident($($number:ident),*) -> $words:literal;)*) => {
@@ -45,7 +47,7 @@ word_functions! {
     hpcdb_trace_at(i, time) -> 3;
 }
 
-/// Functions that lend slices besides the file.
+/// Functions that lend slices besides the file, or instead of it.
 mod slices {
     extern "C" {
         pub fn hpcdb_meta_walk(
@@ -103,6 +105,19 @@ mod slices {
             pairs_length: usize,
             answers: *mut u64,
             answers_length: usize,
+        ) -> u32;
+        pub fn hpcdb_profile_write(
+            profiles: *const u64,
+            profiles_length: usize,
+            tuples: *const u64,
+            tuples_length: usize,
+            identifiers: *const u8,
+            identifiers_length: usize,
+            entries: *const u8,
+            entries_length: usize,
+            file: *mut u8,
+            file_length: usize,
+            out: *mut [u64; 1],
         ) -> u32;
     }
 }
@@ -185,6 +200,25 @@ pub fn hpcdb_cct_lookup_many(file: &[u8], context: u64, pairs: &[u64], answers: 
             pairs.len(),
             answers.as_mut_ptr(),
             answers.len(),
+        )
+    }
+}
+
+pub fn hpcdb_profile_write(lists: &Lists, file: &mut [u8], out: &mut [u64; 1]) -> u32 {
+    // SAFETY: each slice's pointer is valid for the length behind it, `out` for its word.
+    unsafe {
+        slices::hpcdb_profile_write(
+            lists.profiles.as_ptr(),
+            lists.profiles.len(),
+            lists.tuples.as_ptr(),
+            lists.tuples.len(),
+            lists.identifiers.as_ptr(),
+            lists.identifiers.len(),
+            lists.entries.as_ptr(),
+            lists.entries.len(),
+            file.as_mut_ptr(),
+            file.len(),
+            out,
         )
     }
 }

@@ -54,17 +54,17 @@ pub struct Memory {
     pub out: Lent<u64>,
     /// of a walk: listing, table, records; of a batch: answers
     pub slices: [Lent<u64>; 3],
-    /// of a lookup: the bytes for the value, at an odd address
+    /// of a lookup: the bytes for the value; of the writer: those for the file; at an odd address
     pub bytes: Lent<u8>,
 }
 
 impl Memory {
     pub fn new(out: usize, slices: [usize; 3], bytes: usize) -> Memory {
-        let value_bytes = (0..bytes).map(|i| unwritten(i) as u8);
+        let contents = (0..bytes).map(|i| unwritten(i) as u8);
         Memory {
             out: words(out),
             slices: slices.map(words),
-            bytes: Lent::new(value_bytes, GUARD + 1, GUARD, SENTINEL as u8),
+            bytes: Lent::new(contents, GUARD + 1, GUARD, SENTINEL as u8),
         }
     }
 

@@ -1,6 +1,7 @@
-//! Questions: a function of the interface with its arguments. The library and the reader are asked alike.
+//! Questions: a function of the interface with its arguments. The library is asked as the reader or the writer is.
 
 use crate::lent::Memory;
+use crate::writer::Lists;
 use crate::{by_reader, ffi};
 
 #[derive(Clone, Copy, PartialEq, Eq, Debug)]
@@ -42,6 +43,7 @@ pub enum Function {
     CctLookup,
     ProfileLookupMany,
     CctLookupMany,
+    ProfileWrite,
 }
 
 use Database::{Cct, Meta, Profile, Trace};
@@ -56,7 +58,7 @@ pub struct Row {
     pub numbers: usize,
     /// how many words `out` has
     pub words: usize,
-    /// the codes it may give, besides those of opening
+    /// the codes it may give, besides those of opening if it opens a file
     pub codes: &'static [u32],
 }
 
@@ -71,7 +73,7 @@ const fn row(
 }
 
 /// The table of the interface, in the order of `Function`: numbers taken, words of `out`, codes.
-pub const FUNCTIONS: [Row; 29] = [
+pub const FUNCTIONS: [Row; 30] = [
     row(MetaOpen, "hpcdb_meta_open", Meta, [0, 16], &[0]),
     row(ProfileOpen, "hpcdb_profile_open", Profile, [0, 1], &[0]),
     row(CctOpen, "hpcdb_cct_open", Cct, [0, 1], &[0]),
@@ -101,6 +103,7 @@ pub const FUNCTIONS: [Row; 29] = [
     row(CctLookup, "hpcdb_cct_lookup", Cct, [3, 0], &[0, 7, 11, 15, 17, 100]),
     row(ProfileLookupMany, "hpcdb_profile_lookup_many", Profile, [1, 0], &[0, 7, 11, 15, 17]),
     row(CctLookupMany, "hpcdb_cct_lookup_many", Cct, [1, 0], &[0, 7, 11, 15, 17]),
+    row(ProfileWrite, "hpcdb_profile_write", Profile, [0, 1], &[0, 7, 11, 15, 17]),
 ];
 
 impl Function {
@@ -120,7 +123,7 @@ macro_rules! ask_through {
         let (question, file, memory): (&Question, &[u8], &mut Memory) = ($question, $file, $memory);
         let [a, b, c] = question.numbers;
         let [first, second, third] = memory.slices.each_mut().map(|slice| slice.body_mut());
-        let (out, value) = (memory.out.body_mut(), memory.bytes.body_mut());
+        let (out, bytes) = (memory.out.body_mut(), memory.bytes.body_mut());
         match question.function {
             MetaOpen => $interface::hpcdb_meta_open(file, array(out)),
             ProfileOpen => $interface::hpcdb_profile_open(file, array(out)),
@@ -147,12 +150,27 @@ macro_rules! ask_through {
             TraceLine => $interface::hpcdb_trace_line(file, a, array(out)),
             TraceSample => $interface::hpcdb_trace_sample(file, a, b, array(out)),
             TraceAt => $interface::hpcdb_trace_at(file, a, b, array(out)),
-            ProfileLookup => $interface::hpcdb_profile_lookup(file, a, b, c, value),
-            CctLookup => $interface::hpcdb_cct_lookup(file, a, b, c, value),
+            ProfileLookup => $interface::hpcdb_profile_lookup(file, a, b, c, bytes),
+            CctLookup => $interface::hpcdb_cct_lookup(file, a, b, c, bytes),
             ProfileLookupMany => $interface::hpcdb_profile_lookup_many(file, a, &question.pairs, first),
             CctLookupMany => $interface::hpcdb_cct_lookup_many(file, a, &question.pairs, first),
+            ProfileWrite => $interface::hpcdb_profile_write(&question.survey.lists(file), bytes, array(out)),
         }
     }};
+}
+
+/// The lists of a call of the writer, but for the entries: these are lent where other functions have the file.
+#[derive(Clone, Default, Debug)]
+pub struct Survey {
+    pub profiles: Vec<u64>,
+    pub tuples: Vec<u64>,
+    pub identifiers: Vec<u8>,
+}
+
+impl Survey {
+    pub fn lists<'a>(&'a self, entries: &'a [u8]) -> Lists<'a> {
+        Lists { profiles: &self.profiles, tuples: &self.tuples, identifiers: &self.identifiers, entries }
+    }
 }
 
 /// A call, but for the file.
@@ -163,20 +181,22 @@ pub struct Question {
     pub numbers: [u64; 3],
     /// words lent: of a walk listing, table, records; of a batch answers
     pub rooms: [usize; 3],
-    /// bytes lent for a lookup's value
-    pub value_room: usize,
+    /// bytes lent for a lookup's value, or for the file that is written
+    pub byte_room: usize,
     /// of a batch
     pub pairs: Vec<u64>,
+    /// of the writer
+    pub survey: Survey,
 }
 
 impl Question {
     pub fn new(function: Function, numbers: [u64; 3]) -> Question {
-        Question { function, numbers, rooms: [0; 3], value_room: 0, pairs: Vec::new() }
+        Question { function, numbers, rooms: [0; 3], byte_room: 0, pairs: Vec::new(), survey: Survey::default() }
     }
 
     /// Memory as it is before the call.
     pub fn memory(&self) -> Memory {
-        Memory::new(self.function.row().words, self.rooms, self.value_room)
+        Memory::new(self.function.row().words, self.rooms, self.byte_room)
     }
 
     pub fn ask_library(&self, file: &[u8], memory: &mut Memory) -> u32 {

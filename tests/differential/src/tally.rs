@@ -10,10 +10,17 @@ use crate::gen::{Known, Specimen};
 use crate::question::Function::*;
 use crate::question::{Database, Question, Row, FUNCTIONS};
 use crate::reader::walk::RECORD_WORDS;
+use crate::reader::Refusal;
+use crate::writer::{self, profile_of, Lists};
 
 /// Codes of opening.
 const OPENING: [u32; 7] = [1, 2, 3, 4, 5, 6, 7];
 const FOOTER: u32 = 4;
+
+/// Refusals of the writer.
+const ORDER: u32 = Refusal::Order as u32;
+const INDEX: u32 = Refusal::Index as u32;
+const ROOM: u32 = Refusal::Room as u32;
 
 /// Each code that a function can give is to occur this often in a run of full length, each kind of answer too.
 const LEAST: u64 = 50;
@@ -28,9 +35,11 @@ pub struct Tally {
 }
 
 /// Kinds of answers and files that a run has to meet.
-const KINDS: [&str; 21] = [
+const KINDS: [&str; 32] = [
     "sound file",
     "damaged file",
+    "sound lists",
+    "damaged lists",
     "name in the file",
     "placeholder for a name",
     "copied file",
@@ -50,6 +59,15 @@ const KINDS: [&str; 21] = [
     "empty trace line",
     "last of several samples with one timestamp",
     "batch with an odd last word",
+    "written file of no profile",
+    "written file with a profile of no entry",
+    "written file with a tuple of no profile",
+    "written file with a tuple of several profiles",
+    "written file with padding",
+    "written file in just enough room",
+    "refused 17 for one byte",
+    "refused 15 with entries out of order",
+    "refused 11 with a tuple too long",
 ];
 
 impl Tally {
@@ -58,7 +76,12 @@ impl Tally {
     }
 
     pub fn add_file(&mut self, specimen: &Specimen) {
-        self.add_kind(if specimen.damage.is_empty() { "sound file" } else { "damaged file" });
+        self.add_kind(match (&specimen.known, specimen.damage.is_empty()) {
+            (Known::Lists(_), true) => "sound lists",
+            (Known::Lists(_), false) => "damaged lists",
+            (_, true) => "sound file",
+            (_, false) => "damaged file",
+        });
     }
 
     fn add_kind(&mut self, kind: &'static str) {
@@ -71,6 +94,7 @@ impl Tally {
         let out = reply.memory.out.body();
         match question.function {
             MetaWalk | MetaRecords => self.add_walk(question, reply.code, out[0]),
+            ProfileWrite => self.add_write(question, &specimen.bytes, reply),
             _ if reply.code != ANSWERED => {}
             MetaFunction => self.add_kind(if out[0] == 0 { "name in the file" } else { "placeholder for a name" }),
             MetaFile => self.add_kind(if out[2] == 1 { "copied file" } else { "file not copied" }),
@@ -104,6 +128,37 @@ impl Tally {
         if !room.is_multiple_of(RECORD_WORDS) && room / RECORD_WORDS < listed as usize {
             self.add_kind("room that ends inside a record");
         }
+    }
+
+    fn add_write(&mut self, question: &Question, entries: &[u8], reply: &Reply) {
+        let lists = question.survey.lists(entries);
+        match reply.code {
+            ANSWERED => {
+                self.add_written(&lists);
+                if question.byte_room as u64 == reply.memory.out.body()[0] {
+                    self.add_kind("written file in just enough room");
+                }
+            }
+            ROOM if writer::length(&lists) == Ok(question.byte_room + 1) => self.add_kind("refused 17 for one byte"),
+            INDEX if !lists.are_sorted() => self.add_kind("refused 15 with entries out of order"),
+            ORDER if !lists.fit_their_counts() => self.add_kind("refused 11 with a tuple too long"),
+            _ => {}
+        }
+    }
+
+    fn add_written(&mut self, lists: &Lists) {
+        let mut entries_of = vec![0; lists.profiles.len()];
+        lists.entries().iter().for_each(|entry| entries_of[profile_of(entry) as usize] += 1);
+        let mut profiles_of = vec![0; lists.tuples.len()];
+        lists.profiles.iter().for_each(|tuple| profiles_of[*tuple as usize] += 1);
+        let kinds = [
+            (lists.profiles.is_empty(), "written file of no profile"),
+            (entries_of.contains(&0), "written file with a profile of no entry"),
+            (entries_of.iter().any(|entries| entries % 2 == 1), "written file with padding"),
+            (profiles_of.contains(&0), "written file with a tuple of no profile"),
+            (profiles_of.iter().any(|profiles| *profiles > 1), "written file with a tuple of several profiles"),
+        ];
+        kinds.iter().filter(|(met, _)| *met).for_each(|(_, kind)| self.add_kind(kind));
     }
 
     fn of(&self, row: &Row, code: u32) -> u64 {
@@ -178,6 +233,7 @@ fn code_name(code: u32) -> String {
 }
 
 fn can_give(row: &Row, code: u32) -> bool {
-    let of_opening = OPENING.contains(&code) && !(code == FOOTER && row.database == Database::Trace);
-    of_opening || row.codes.contains(&code)
+    // the writer opens no file, and a trace.db has no footer
+    let never = row.function == ProfileWrite || code == FOOTER && row.database == Database::Trace;
+    OPENING.contains(&code) && !never || row.codes.contains(&code)
 }

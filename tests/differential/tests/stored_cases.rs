@@ -1,4 +1,5 @@
-//! The reader over the repository's stored cases: it is to print what stands in each `stdout`.
+//! The reader over the repository's stored cases: it is to print what stands in each `stdout`. So are the writer and
+//! the library over the lists.
 
 use std::fmt::Write as _;
 use std::fs;
@@ -6,6 +7,8 @@ use std::path::PathBuf;
 
 use differential::reader::walk::{End, RECORD_WORDS};
 use differential::reader::{cct, meta, profile, trace, walk, Refusal, Span, Text};
+use differential::writer::Lists;
+use differential::{by_reader, ffi};
 
 fn directory(cases: &str) -> PathBuf {
     [env!("CARGO_MANIFEST_DIR"), "..", "..", "crates", cases].iter().collect()
@@ -270,4 +273,50 @@ fn counts_tuples_and_trace_lines() {
         printed += &format!("{line} {answer}\n");
     }
     assert_prints("record_cases", printed.as_bytes());
+}
+
+fn numbers(line: &str) -> Vec<u64> {
+    line.split_terminator(' ').map(|word| word.parse().expect("the list has numbers")).collect()
+}
+
+type Write = fn(&Lists, &mut [u8], &mut [u64; 1]) -> u32;
+
+/// What is written into so many bytes, which are 255 before, row by row but for rows of zeros.
+fn shown_write(write: Write, lists: &Lists, room: usize) -> String {
+    let (mut file, mut out) = (vec![255; room], [0]);
+    let mut shown = match write(lists, &mut file, &mut out) {
+        0 => format!("written {}\n", out[0]),
+        refusal => format!("refused {refusal}\n"),
+    };
+    for (k, row) in file.chunks(32).enumerate().filter(|(_, row)| row.iter().any(|byte| *byte != 0)) {
+        let row: String = row.iter().map(|byte| format!("{byte:02x}")).collect();
+        writeln!(shown, "{} {row}", 32 * k).expect("a String takes it");
+    }
+    shown
+}
+
+fn assert_writes(write: Write) {
+    let mut printed = String::new();
+    for case in list("write_cases").chunks(3) {
+        let words: Vec<&str> = case[0].split(' ').collect();
+        let number = |k: usize| words[k].parse().expect("the list has numbers");
+        let (lent, room) = (number(1), number(3));
+        // behind the file's own bytes identifications are 0
+        let mut identifiers = data("write_cases", words[0]);
+        identifiers.resize(lent, 0);
+        let (profiles, tuples, entries) = (numbers(&case[1]), numbers(&case[2]), data("write_cases", words[2]));
+        let lists = Lists { profiles: &profiles, tuples: &tuples, identifiers: &identifiers, entries: &entries };
+        printed += &format!("== {}\n{}", case.join("\n"), shown_write(write, &lists, room));
+    }
+    assert_prints("write_cases", printed.as_bytes());
+}
+
+#[test]
+fn files_by_the_writer() {
+    assert_writes(by_reader::hpcdb_profile_write);
+}
+
+#[test]
+fn files_by_the_library() {
+    assert_writes(ffi::hpcdb_profile_write);
 }

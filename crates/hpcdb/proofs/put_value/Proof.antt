@@ -11,8 +11,8 @@ returns : tie.Need-returns
 unfolding lookupWords codeIn valueIn
 returns c =
     let answer = c .before .before .before .before .before .answer in
-    let number = c .before .before .number in
-    rw (answer .given .1) (refl, number .ensures)
+    let stored = c .before .before .store-u64 in
+    rw (answer .given .1) (refl, stored .ensures)
 
 returns-2 : tie.Need-returns-2
 unfolding lookupWords codeIn valueIn

@@ -1,5 +1,5 @@
-//! Compares libhpcdb.a with the reader over generated files. Ends with 1 at the first difference, or if the run met too
-//! little.
+//! Compares libhpcdb.a with the reader over generated files and with the writer over generated lists. Ends with 1 at
+//! the first difference, or if the run met too little.
 
 use std::env;
 use std::fs::{self, File};
@@ -8,11 +8,14 @@ use std::os::unix::fs::FileExt;
 use std::path::{Path, PathBuf};
 use std::process::ExitCode;
 
+use differential::by_reader::ANSWERED;
 use differential::compare::{compare, Reply};
-use differential::gen::{follow_ups, questions, specimen, Rng, Specimen};
+use differential::gen::{follow_ups, questions, specimen, Known, Rng, Specimen};
 use differential::lent::LentFile;
-use differential::question::Question;
+use differential::question::{Function, Question, Survey};
+use differential::read_back;
 use differential::tally::Tally;
+use differential::writer::Lists;
 
 const SEED: u64 = 20_260_401;
 const CASES: u64 = 2_000_000;
@@ -21,8 +24,8 @@ const USAGE: &str = "\
 differential [--seed S] [--cases N] [--counts]   compare over generated files; --counts shows what the run met
 differential [--seed S] --file F                 make file F of the run again and show each question before it is asked
 
-A file with a difference is kept as failing.db in the directory that cargo builds in. If the library ends the process,
-current-file in that directory has the number F.";
+A file with a difference, or the entries of lists, is kept as failing.db in the directory that cargo builds in. If the
+library ends the process, current-file in that directory has the number F.";
 
 struct Options {
     seed: u64,
@@ -95,8 +98,8 @@ fn run(options: &Options, tally: &mut Tally) -> Result<(), String> {
 fn run_file(seed: u64, number: u64, tally: &mut Tally, aloud: bool) -> Result<(), String> {
     let mut rng = Rng::of_file(seed, number);
     let specimen = specimen(&mut rng);
-    if specimen.damage.is_empty() && !specimen.opens() {
-        return Err(format!("file {number} of seed {seed} has no damage and does not open: the generator is at fault"));
+    if specimen.damage.is_empty() && !specimen.is_sound() {
+        return Err(format!("file {number} of seed {seed} has no damage and is refused: the generator is at fault"));
     }
     tally.add_file(&specimen);
     let first = questions(&mut rng, &specimen);
@@ -104,11 +107,11 @@ fn run_file(seed: u64, number: u64, tally: &mut Tally, aloud: bool) -> Result<()
     if aloud {
         println!("file {number}: {}", described(&specimen));
     }
-    let mut ask = |question: &Question| {
+    let mut ask = |question: &Question, file: &LentFile| {
         if aloud {
             println!("{}", shown(question));
         }
-        let reply = compare(question, &file).map_err(|difference| {
+        let reply = compare(question, file).map_err(|difference| {
             let what = format!("case {} of seed {seed}, file {number}: {}", tally.cases, described(&specimen));
             format!(
                 "difference in {what}\n{}\n{difference}again: differential --seed {seed} --file {number}",
@@ -119,10 +122,30 @@ fn run_file(seed: u64, number: u64, tally: &mut Tally, aloud: bool) -> Result<()
         Ok::<Reply, String>(reply)
     };
     for question in &first {
-        let reply = ask(question)?;
+        let reply = ask(question, &file)?;
         if rng.one_in(2) {
             let then = follow_ups(question, reply.code, reply.memory.out.body());
-            then.iter().try_for_each(|question| ask(question).map(drop))?;
+            then.iter().try_for_each(|question| ask(question, &file).map(drop))?;
+        }
+        if question.function == Function::ProfileWrite && reply.code == ANSWERED {
+            let by = |failure| format!("{failure}\nin what was written by file {number}, {}", shown(question));
+            ask_written(&question.survey.lists(file.bytes()), &reply, &mut ask).map_err(by)?;
+        }
+    }
+    Ok(())
+}
+
+/// Reads a written file back: library and reader agree, and they say what the lists say.
+fn ask_written(
+    lists: &Lists,
+    reply: &Reply,
+    mut ask: impl FnMut(&Question, &LentFile) -> Result<Reply, String>,
+) -> Result<(), String> {
+    let length = reply.memory.out.body()[0] as usize;
+    let written = LentFile::new(reply.memory.bytes.body()[..length].to_vec(), 0, 0);
+    for expected in read_back::questions(lists) {
+        if !expected.is_given_by(&ask(&expected.question, &written)?) {
+            return Err(format!("the lists have another answer to {}", shown(&expected.question)));
         }
     }
     Ok(())
@@ -134,19 +157,19 @@ fn described(specimen: &Specimen) -> String {
         Ok(path) => path.display().to_string(),
         Err(error) => format!("nowhere ({error})"),
     };
-    format!("{:?} of {} bytes, damage {:?}, kept in {kept}", specimen.database, specimen.bytes.len(), specimen.damage)
+    let what = if let Known::Lists(_) = specimen.known { "entries for a " } else { "" };
+    let (database, length) = (specimen.database, specimen.bytes.len());
+    format!("{what}{database:?} of {length} bytes, damage {:?}, kept in {kept}", specimen.damage)
 }
 
 fn shown(question: &Question) -> String {
     let row = question.function.row();
-    format!(
-        "{} {:?}, words lent {:?}, bytes lent {}, pairs {:?}",
-        row.name,
-        &question.numbers[..row.numbers],
-        question.rooms,
-        question.value_room,
-        question.pairs
-    )
+    let lent = format!("words lent {:?}, bytes lent {}", question.rooms, question.byte_room);
+    if question.function == Function::ProfileWrite {
+        let Survey { profiles, tuples, identifiers } = &question.survey;
+        return format!("{} {lent}, {profiles:?}, {tuples:?}, {} bytes of identifiers", row.name, identifiers.len());
+    }
+    format!("{} {:?}, {lent}, pairs {:?}", row.name, &question.numbers[..row.numbers], question.pairs)
 }
 
 fn keep(bytes: &[u8]) -> io::Result<PathBuf> {

@@ -33,8 +33,8 @@ pub struct Known {
 const REMEMBERED: usize = 40;
 
 /// Sub-arrays: their ids, and in each the ids and bits of its values.
-struct Block {
-    sub_arrays: Vec<(u64, Vec<(u64, u64)>)>,
+pub struct Block {
+    pub sub_arrays: Vec<(u64, Vec<(u64, u64)>)>,
 }
 
 impl Block {
@@ -42,7 +42,7 @@ impl Block {
         self.sub_arrays.iter().map(|(_, values)| values.len()).sum()
     }
 
-    fn some(rng: &mut Rng, major: &Major) -> Block {
+    pub fn some(rng: &mut Rng, major: &Major) -> Block {
         let (indices, values) = if rng.one_in(400) {
             // past 65,535 values
             rng.pick(&[(1, 65_536), (2, 40_000), (40_000, 2), (65_535, 2), (65_536, 1)])
@@ -246,13 +246,21 @@ struct Tuples {
     of_profile: Vec<Option<usize>>,
 }
 
+/// How many a tuple has: mostly few.
+pub fn identifications(rng: &mut Rng) -> usize {
+    if rng.one_in(50) {
+        return rng.between(6, 400);
+    }
+    rng.below(6)
+}
+
 impl Tuples {
     fn plan(rng: &mut Rng, plan: &mut Plan, profiles: usize) -> Tuples {
         let section = plan.section_without_header(8);
         let tuple_count = rng.pick(&[0, 1, 2, 3, 4]);
         let mut tuples = Vec::new();
         for _ in 0..tuple_count {
-            let ids = if rng.one_in(50) { rng.between(6, 400) } else { rng.below(6) };
+            let ids = identifications(rng);
             tuples.push((plan.inside(section, 8 + 16 * ids, 8), ids));
         }
         let of_profile = (0..profiles).map(|_| (tuple_count > 0).then(|| rng.below(tuple_count))).collect();

@@ -2,18 +2,25 @@
 
 use super::image::{number_at, Field, FieldKind};
 use super::rng::Rng;
-use super::{footer, header_end, Specimen};
+use super::{footer, header_end, lists, Known, Specimen};
 
-/// Damages a file in one way.
+/// Damages a file or lists in one way.
 pub fn damage(rng: &mut Rng, specimen: &mut Specimen) {
-    let done = match rng.below(20) {
+    let done = match &mut specimen.known {
+        Known::Lists(known) => lists::damage(rng, &mut known.survey, &mut specimen.bytes),
+        _ => damage_file(rng, specimen),
+    };
+    specimen.damage.extend(done);
+}
+
+fn damage_file(rng: &mut Rng, specimen: &mut Specimen) -> Option<String> {
+    match rng.below(20) {
         0..12 => set_field(rng, specimen),
         12..14 => copy_field(rng, specimen),
         14..16 => flip_bits(rng, specimen),
         16..18 => cut(rng, specimen),
         _ => append(rng, specimen),
-    };
-    specimen.damage.extend(done);
+    }
 }
 
 /// A field of a kind that is chosen first, so that the few fields of opening are met as often as the many of the

@@ -1,9 +1,9 @@
-//! Large sound files for the benchmarks: nothing is left to chance but the order of flags.
+//! Large sound files and lists for the benchmarks: nothing is left to chance but the order of flags.
 
 use super::rng::Rng;
 use super::tree::needed_words;
 use super::{footer, header_end, magic};
-use crate::question::Database;
+use crate::question::{Database, Survey};
 
 /// A file that grows at its end; the header is written last.
 struct Growing {
@@ -228,4 +228,20 @@ pub fn trace(samples: usize) -> Vec<u8> {
     let end = file.bytes.len();
     file.array_section(1, &[(1, 24)], |file, _| [0, start, end].iter().for_each(|word| file.append(8, *word as u64)));
     file.finished()
+}
+
+/// The lists of so many profiles, each with a tuple of two identifications and with so many contexts, 0, 1, 2 .., and
+/// metrics, 0, 1, 2 ..; and the entries.
+pub fn survey(profiles: usize, contexts: usize, metrics: usize) -> (Survey, Vec<u8>) {
+    let numbers = 0..profiles as u64;
+    let identifiers = numbers.clone().flat_map(|p| [1, p, 2, p]).flat_map(u64::to_le_bytes).collect();
+    let mut entries = Vec::with_capacity(24 * profiles * contexts * metrics);
+    for k in 0..profiles * contexts * metrics {
+        let (row, metric) = (k / metrics, k % metrics);
+        entries.extend(((row / contexts) as u32).to_le_bytes());
+        entries.extend(((row % contexts) as u32).to_le_bytes());
+        entries.extend((metric as u64).to_le_bytes());
+        entries.extend((k as f64).to_bits().to_le_bytes());
+    }
+    (Survey { profiles: numbers.collect(), tuples: vec![2; profiles], identifiers }, entries)
 }

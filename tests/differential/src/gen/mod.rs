@@ -1,9 +1,10 @@
-//! Files to compare over: sound ones of every shape, and damaged ones.
+//! Files and lists to compare over: sound ones of every shape, and damaged ones.
 
 mod blocks;
 mod damage;
 mod image;
 pub mod large;
+mod lists;
 mod meta;
 mod plan;
 mod questions;
@@ -15,15 +16,16 @@ pub use questions::{follow_ups, questions};
 pub use rng::Rng;
 
 use crate::question::Database;
-use crate::reader;
+use crate::{reader, writer};
 use image::{Field, FieldKind, Image};
 
-/// A generated file, and what is known of it, so that questions can be about what is there.
+/// A generated file, or lists to write one from, and what is known of it, so that questions can be about what is there.
 pub struct Specimen {
     pub database: Database,
+    /// the file, or the entries
     pub bytes: Vec<u8>,
     pub known: Known,
-    /// what was done to a sound file
+    /// what was done to a sound one
     pub damage: Vec<String>,
     /// the position of an element that was damaged
     focus: Option<usize>,
@@ -34,15 +36,17 @@ pub enum Known {
     Meta(meta::Known),
     Blocks(blocks::Known),
     Trace(trace::Known),
+    Lists(lists::Known),
 }
 
-/// A file of any kind, seven in ten damaged.
+/// A file of any kind, or lists; seven in ten damaged.
 pub fn specimen(rng: &mut Rng) -> Specimen {
-    let mut specimen = match rng.below(20) {
-        0..8 => meta::specimen(rng),
-        8..12 => blocks::specimen(rng, &blocks::PROFILE_MAJOR),
-        12..16 => blocks::specimen(rng, &blocks::CONTEXT_MAJOR),
-        _ => trace::specimen(rng),
+    let mut specimen = match rng.below(42) {
+        0..16 => meta::specimen(rng),
+        16..24 => blocks::specimen(rng, &blocks::PROFILE_MAJOR),
+        24..32 => blocks::specimen(rng, &blocks::CONTEXT_MAJOR),
+        32..40 => trace::specimen(rng),
+        _ => lists::specimen(rng),
     };
     let times = rng.pick(&[0, 0, 0, 1, 1, 1, 1, 1, 2, 3]);
     for _ in 0..times {
@@ -56,8 +60,11 @@ impl Specimen {
         Specimen { database, bytes: image.bytes, known, damage: Vec::new(), focus: None, fields: image.fields }
     }
 
-    /// Whether the reader opens it.
-    pub fn opens(&self) -> bool {
+    /// Whether the reader opens it, or the writer takes it.
+    pub fn is_sound(&self) -> bool {
+        if let Known::Lists(known) = &self.known {
+            return writer::length(&known.survey.lists(&self.bytes)).is_ok();
+        }
         match self.database {
             Database::Meta => reader::meta::counts(&self.bytes).is_ok(),
             Database::Profile => reader::profile::count(&self.bytes).is_ok(),

@@ -4,7 +4,7 @@
 use std::iter;
 
 use super::rng::Rng;
-use super::{blocks, meta, trace, Known, Specimen};
+use super::{blocks, lists, meta, trace, Known, Specimen};
 use crate::question::Function::{self, *};
 use crate::question::{Database, Question, FUNCTIONS};
 use crate::reader::walk::RECORD_WORDS;
@@ -13,7 +13,13 @@ use crate::reader::walk::RECORD_WORDS;
 const LONG: usize = 100_000;
 
 pub fn questions(rng: &mut Rng, specimen: &Specimen) -> Vec<Question> {
-    let count = if specimen.bytes.len() > LONG { 6 } else { rng.between(8, 16) };
+    let long = specimen.bytes.len() > LONG;
+    let count = match specimen.known {
+        // a written file is asked in its turn
+        Known::Lists(_) => rng.between(1, if long { 2 } else { 6 }),
+        _ if long => 6,
+        _ => rng.between(8, 16),
+    };
     (0..count).map(|_| question(rng, specimen)).collect()
 }
 
@@ -31,7 +37,8 @@ pub fn follow_ups(question: &Question, code: u32, out: &[u64]) -> Vec<Question> 
     listings.into_iter().flatten().map(again).collect()
 }
 
-/// How often each function is asked of a file of its kind: those with more to find more often.
+/// How often each function is asked of a file of its kind: those with more to find more often. The writer is asked of
+/// lists.
 const WEIGHTS: [(Function, usize); 29] = [
     (MetaOpen, 1),
     (MetaCounts, 1),
@@ -76,11 +83,11 @@ fn question(rng: &mut Rng, specimen: &Specimen) -> Question {
         // a function of any file
         return stray_question(rng);
     }
-    let function = some_function(rng, specimen.database);
     match &specimen.known {
-        Known::Meta(known) => meta_question(rng, function, known, specimen.focus),
-        Known::Blocks(known) => blocks_question(rng, function, known, specimen.focus),
-        Known::Trace(known) => trace_question(rng, function, known, specimen.focus),
+        Known::Meta(known) => meta_question(rng, known, specimen.focus),
+        Known::Blocks(known) => blocks_question(rng, specimen.database, known, specimen.focus),
+        Known::Trace(known) => trace_question(rng, known, specimen.focus),
+        Known::Lists(known) => write_question(rng, known),
     }
 }
 
@@ -93,10 +100,17 @@ fn stray_question(rng: &mut Rng) -> Question {
         MetaWalk | MetaRecords => {
             question.rooms = [rng.below(5), rng.below(5), if row.function == MetaRecords { rng.below(30) } else { 0 }];
         }
-        ProfileLookup | CctLookup => question.value_room = rng.below(12),
+        ProfileLookup | CctLookup => question.byte_room = rng.below(12),
         ProfileLookupMany | CctLookupMany => {
             question.pairs = (0..rng.below(6)).map(|_| rng.edge()).collect();
             question.rooms[0] = rng.below(8);
+        }
+        ProfileWrite => {
+            // what is lent where the file is are the entries
+            question.byte_room = rng.below(400);
+            question.survey.profiles = (0..rng.below(4)).map(|_| rng.below(3) as u64).collect();
+            question.survey.tuples = (0..rng.below(4)).map(|_| rng.below(3) as u64).collect();
+            question.survey.identifiers = (0..rng.below(120)).map(|_| rng.word() as u8).collect();
         }
         _ => {}
     }
@@ -143,7 +157,8 @@ fn room(rng: &mut Rng, exact: usize) -> usize {
     }
 }
 
-fn meta_question(rng: &mut Rng, function: Function, known: &meta::Known, focus: Option<usize>) -> Question {
+fn meta_question(rng: &mut Rng, known: &meta::Known, focus: Option<usize>) -> Question {
+    let function = some_function(rng, Database::Meta);
     let mut at = |count| position(rng, count, focus);
     let numbers = match function {
         MetaIdName => [at(known.kinds), 0, 0],
@@ -196,7 +211,8 @@ fn some_value(rng: &mut Rng, known: &blocks::Known, focus: Option<usize>) -> [u6
     }
 }
 
-fn blocks_question(rng: &mut Rng, function: Function, known: &blocks::Known, focus: Option<usize>) -> Question {
+fn blocks_question(rng: &mut Rng, database: Database, known: &blocks::Known, focus: Option<usize>) -> Question {
+    let function = some_function(rng, database);
     let [element, index_id, value_id] = some_value(rng, known, focus);
     let element = position(rng, known.elements, Some(element as usize));
     let (index_id, value_id) = (near_id(rng, index_id), near_id(rng, value_id));
@@ -213,7 +229,7 @@ fn blocks_question(rng: &mut Rng, function: Function, known: &blocks::Known, foc
     };
     let mut question = Question::new(function, numbers);
     match function {
-        ProfileLookup | CctLookup => question.value_room = rng.pick(&[8, 8, 8, 8, 8, 8, 8, 8, 8, 9, 16, 16, 7, 0]),
+        ProfileLookup | CctLookup => question.byte_room = rng.pick(&[8, 8, 8, 8, 8, 8, 8, 8, 8, 9, 16, 16, 7, 0]),
         ProfileLookupMany | CctLookupMany => {
             question.pairs = pairs(rng, known, element);
             let exact = question.pairs.len() / 2 * 2;
@@ -242,7 +258,8 @@ fn pairs(rng: &mut Rng, known: &blocks::Known, element: u64) -> Vec<u64> {
     words
 }
 
-fn trace_question(rng: &mut Rng, function: Function, known: &trace::Known, focus: Option<usize>) -> Question {
+fn trace_question(rng: &mut Rng, known: &trace::Known, focus: Option<usize>) -> Question {
+    let function = some_function(rng, Database::Trace);
     if matches!(function, TraceOpen | TraceSections) {
         return Question::new(function, [0; 3]);
     }
@@ -255,4 +272,9 @@ fn trace_question(rng: &mut Rng, function: Function, known: &trace::Known, focus
         _ => 0,
     };
     Question::new(function, [i, second, 0])
+}
+
+fn write_question(rng: &mut Rng, known: &lists::Known) -> Question {
+    let byte_room = room(rng, known.length);
+    Question { byte_room, survey: known.survey.clone(), ..Question::new(ProfileWrite, [0; 3]) }
 }

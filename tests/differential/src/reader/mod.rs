@@ -7,8 +7,9 @@ pub mod profile;
 pub mod trace;
 pub mod walk;
 
+pub(crate) mod bytes;
+
 mod block;
-mod bytes;
 mod infos;
 mod opening;
 mod text;

@@ -1,0 +1,5 @@
+pub mod Groups
+pub mod Distinct
+pub mod Readback
+pub mod Round
+pub mod Example

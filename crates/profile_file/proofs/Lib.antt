@@ -1,0 +1,10 @@
+pub mod Runs
+pub mod Lengths
+pub mod Most
+pub mod Places
+pub mod Checks
+pub mod Opens
+pub mod Finds
+pub mod Tuples
+pub mod Promise
+pub mod Example

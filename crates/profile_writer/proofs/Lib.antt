@@ -1,0 +1,5 @@
+pub mod Tuples
+pub mod Profiles
+pub mod Whole
+pub mod Says
+pub mod Example
