@@ -4,7 +4,7 @@ use mathlib.Core.Bool.{true}
 use mathlib.Core.Path.{_≡_, refl, sym, ap, _∙_}
 use native.Mathlib.Omega.{arith}
 use Rattle.block.specs.declared.Shape.{Shape}
-use Rattle.block_file.specs.Written.{Pairs, leads, groups}
+use Rattle.block_file.specs.Pairs.{Pairs, leads, groups}
 use Rattle.block_file.specs.Facts.{PairsFit}
 use Rattle.block_file.proofs.Groups.{leader, stop, group-yes, leads-anew, same-group, Leader, leader-of, leader-lt, Member, member-group, member-of}
 

@@ -12,7 +12,7 @@ use Rattle.seq.specs.Sequence.{position}
 use Rattle.block.specs.declared.Lookup.the-variants.{Found, Absent}
 use Rattle.block.specs.Block.{profileShape, cctShape, idAt, wordAt, startOf, endOf, partOf, partAt, valueAt, inPart, indexOf, lookupIn}
 use Rattle.layout.specs.Many.{many, toFour, zeros}
-use Rattle.block_file.specs.Written.{Pairs, leads, groups, groupsOf, valueElement, indexElement, written, indicesFrom, blockOf}
+use Rattle.block_file.specs.Pairs.{Pairs, leads, groups, groupsOf, valueElement, indexElement, written, indicesFrom, blockOf}
 use Rattle.block_file.proofs.Readback.{length-written}
 
 pub length-cct : (e : Pairs) → length (written cctShape e) ≡ e .count * 12 + groupsOf e * 10 + 2 * (groupsOf e % 2)

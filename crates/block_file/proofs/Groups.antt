@@ -9,7 +9,7 @@ use native.Mathlib.Omega.{arith}
 use borrow.Author.Tests.{eq-eqb, ne-eqb, eqb-true, eqb-false, not-true, not-false, lt-ltb, le-ltb}
 use lib.Dec.{eqb, ltb}
 use Rattle.refusal.specs.Check.{either}
-use Rattle.block_file.specs.Written.{leads, groups}
+use Rattle.block_file.specs.Pairs.{leads, groups}
 
 -- the first pair of group i, and the pair past its last
 unfoldable pub leader : (outer : ℕ → ℕ) (n i : ℕ) → ℕ

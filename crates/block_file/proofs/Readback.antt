@@ -16,7 +16,7 @@ use Rattle.block.specs.declared.Block.{Block}
 use Rattle.block.specs.Block.{profileShape, idAt, wordAt, blockAt}
 use Rattle.layout.specs.Many.{many, toFour}
 use Rattle.layout.proofs.Many.{many-at, length-many, length-zeros}
-use Rattle.block_file.specs.Written.{Pairs, leads, groups, valueElement, indexElement, values, indices, groupsOf, blockParts, written, indicesFrom, headerBytes}
+use Rattle.block_file.specs.Pairs.{Pairs, leads, groups, valueElement, indexElement, valueArray, indexArray, groupsOf, blockParts, written, indicesFrom, headerBytes}
 use Rattle.block_file.proofs.Groups.{leader, leader-of}
 
 -- an element: an id, and a word
@@ -101,11 +101,11 @@ module _ (h : Shape) (e : Pairs) where
       )
 
   module _ (file : List ℕ) (at : ℕ) (s : Stands file at (written h e)) where
-    pub values-stand : Stands file at (values h e)
+    pub values-stand : Stands file at (valueArray h e)
     unfolding written
     values-stand = moved at (omega arith) (part-at (blockParts h e) 0 s (omega arith))
 
-    pub indices-stand : Stands file (indicesFrom h e at) (indices h e)
+    pub indices-stand : Stands file (indicesFrom h e at) (indexArray h e)
     unfolding written indicesFrom
     indices-stand =
         moved (indicesFrom h e at)

@@ -22,7 +22,7 @@ use Rattle.block.specs.Block.{idAt, wordAt, startOf, endOf, partOf, innerIds}
 use Rattle.block.specs.OrderKept.{OrderKept}
 use Rattle.block.specs.Facts.{RangesKept, WellFormed, Holds}
 use Rattle.block.proofs.Facts.{none-or-some}
-use Rattle.block_file.specs.Written.{Pairs, groups, values, indices, groupsOf, written, indicesFrom, blockOf}
+use Rattle.block_file.specs.Pairs.{Pairs, groups, valueArray, indexArray, groupsOf, written, indicesFrom, blockOf}
 use Rattle.block_file.specs.Facts.{PairsFit, BlockStands, HasPair}
 use Rattle.block_file.proofs.Groups.{leader, stop, groups-le, groups-one, leader-of, leader-zero, leader-lt, Member, member-of}
 use Rattle.block_file.proofs.Distinct.{outer-rise, in-all, in-outer, leader-has}
@@ -32,7 +32,7 @@ use Rattle.block_file.proofs.Readback.{value-read, index-read, length-w
 abbrev plain : Pairs → (at to : ℕ) → Block
 plain e at to = record { total = e .count; values = at; count = groupsOf e; indices = to }
 
-module _ (file : List ℕ) (h : Shape) (e : Pairs) (at to : ℕ) (s : PairsFit h e) (vs : Stands file at (values h e)) (xs : Stands file to (indices h e)) where
+module _ (file : List ℕ) (h : Shape) (e : Pairs) (at to : ℕ) (s : PairsFit h e) (vs : Stands file at (valueArray h e)) (xs : Stands file to (indexArray h e)) where
   abbrev O : ℕ → ℕ
   O = e .outer
 

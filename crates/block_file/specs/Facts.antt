@@ -6,7 +6,7 @@ use lib.ListN.{length}
 use Rattle.layout.specs.Stands.{Stands}
 use Rattle.outside.specs.Facts.{LiesOutside}
 use Rattle.block.specs.declared.Shape.{Shape}
-use Rattle.block_file.specs.Written.{Pairs, written}
+use Rattle.block_file.specs.Pairs.{Pairs, written}
 
 -- sorted by the outer id, and then strictly by the inner; each number fits its field
 pub record PairsFit (h : Shape) (e : Pairs) : Type 0 where

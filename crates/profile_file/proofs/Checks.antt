@@ -13,7 +13,7 @@ use Rattle.refusal.specs.Check.{rule}
 use Rattle.refusal.proofs.Checks.{Decides, rule-decides, first-decides}
 use Rattle.seq.specs.Sequence.{every}
 use Rattle.seq.proofs.Every.{every-at, every-of}
-use Rattle.block_file.specs.Written.{groupsOf}
+use Rattle.block_file.specs.Pairs.{groupsOf}
 use Rattle.profile_file.specs.Survey.{Entries, Survey, Before, Ascending, pairsOf}
 use Rattle.profile_file.specs.File.{profileFile}
 use Rattle.profile_file.specs.Facts.{AllListed, CountsFit}

@@ -12,7 +12,7 @@ use Rattle.layout.specs.Many.{many, toFour, zeros}
 use Rattle.refusal.specs.Check.{either}
 use Rattle.open.specs.Opening.{placeFor}
 use Rattle.seq.specs.Sequence.{every}
-use Rattle.block_file.specs.Written.{leads, groups, valueElement, indexElement, written, indicesFrom, blockOf, headerBytes}
+use Rattle.block_file.specs.Pairs.{leads, groups, valueElement, indexElement, written, indicesFrom, blockOf, headerBytes}
 use Rattle.profile_file.specs.Survey.{Survey, countBelow, runStart, runLength}
 use Rattle.profile_file.specs.File.{identificationBytes, tupleBytes, blockBytes, tuplesFrom, tuplesSize, tupleFrom, blockFrom, blockHeader, infoBytes, fileHeader, infosHeader, profileFile}
 use Rattle.profile_file.specs.Facts.{Writable}

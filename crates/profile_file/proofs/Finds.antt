@@ -20,7 +20,7 @@ use Rattle.block.specs.Facts.{Holds}
 use Rattle.lookup.specs.Lookup.{checkedAt, profileBlock, onChecked, profileLookup}
 use Rattle.lookup.specs.Demand2.{There}
 use Rattle.lookup.proofs.Demand2.{demand2}
-use Rattle.block_file.specs.Written.{written, indicesFrom, blockOf}
+use Rattle.block_file.specs.Pairs.{written, indicesFrom, blockOf}
 use Rattle.block_file.specs.Facts.{PairsFit, BlockStands, HasPair}
 use Rattle.block_file.proofs.Readback.{length-written, header-read, HeaderFits}
 use Rattle.block_file.proofs.Round.{written-well-formed, written-holds-iff}

@@ -10,7 +10,7 @@ use Rattle.layout.proofs.Laws.{length-fields, length-join}
 use Rattle.layout.proofs.Many.{length-next, length-many, length-multiple}
 use Rattle.seq.specs.Sequence.{sum}
 use Rattle.block.specs.Block.{profileShape}
-use Rattle.block_file.specs.Written.{groupsOf}
+use Rattle.block_file.specs.Pairs.{groupsOf}
 use Rattle.block_file.proofs.Readback.{length-profile, length-header}
 use Rattle.profile_file.specs.Survey.{Tuples, Entries, Survey, runLength, pairsOf}
 use Rattle.profile_file.specs.File.{identificationBytes, tupleBytes, blockBytes, tuplesFrom, tuplesSize, blockHeader, infoBytes, fileHeader, infosHeader, fileParts, profileFile}

@@ -7,7 +7,7 @@ use Rattle.refusal.specs.declared.Refusal.the-variants as No
 use Rattle.refusal.specs.declared.Check.{Check}
 use Rattle.refusal.specs.Check.{rule, first}
 use Rattle.seq.specs.Sequence.{every}
-use Rattle.block_file.specs.Written.{groupsOf}
+use Rattle.block_file.specs.Pairs.{groupsOf}
 use Rattle.profile_file.specs.Survey.{Tuples, Entries, Survey, pairsOf}
 use Rattle.profile_file.specs.File.{profileFile}
 

@@ -1,7 +1,7 @@
 -- What is written, as facts: everything named is listed, entries are sorted, and each number fits its field.
 use Prim.Native.Nat.{ℕ, _^_, _<_}
 use lib.ListN.{length}
-use Rattle.block_file.specs.Written.{groupsOf}
+use Rattle.block_file.specs.Pairs.{groupsOf}
 use Rattle.profile_file.specs.Survey.{Survey, Ascending, pairsOf}
 use Rattle.profile_file.specs.File.{profileFile}
 

@@ -9,7 +9,7 @@ use Rattle.open.specs.Format as Format
 use Rattle.open.specs.Opening.{placeFor}
 use Rattle.block.specs.Block.{profileShape}
 use Rattle.block.specs.declared.Block.{Block}
-use Rattle.block_file.specs.Written.{written, blockOf, headerBytes}
+use Rattle.block_file.specs.Pairs.{written, blockOf, headerBytes}
 use Rattle.profile_file.specs.Survey.{Tuples, Entries, Survey, pairsOf}
 
 -- ---- identifier tuples

@@ -3,7 +3,7 @@ use Prim.Native.Nat.{ℕ, zero, suc, _+_, _-_, _≤_, _<_}
 use mathlib.Core.Path.{_≡_}
 use lib.Dec.{ltb}
 use Rattle.refusal.specs.Check.{either}
-use Rattle.block_file.specs.Written.{Pairs}
+use Rattle.block_file.specs.Pairs.{Pairs}
 
 -- identifier tuples: how many, the number of identifications of each, and what identification j of tuple t has
 pub record Tuples : Type 0 where

@@ -10,7 +10,7 @@ use Rattle.layout.specs.Many.{many}
 use Rattle.layout.proofs.Many.{many-none, length-next}
 use Rattle.seq.specs.Sequence.{every}
 use Rattle.seq.proofs.Every.{every-none, every-next}
-use Rattle.block_file.specs.Written.{leads, groups, groupsOf}
+use Rattle.block_file.specs.Pairs.{leads, groups, groupsOf}
 use Rattle.block_file.proofs.Groups.{group-yes, group-no, groups-none, groups-most}
 use Rattle.profile_file.specs.Survey.{Entries, Ascending, runStart, runLength, pairsOf}
 use Rattle.profile_file.specs.File.{blockBytes}

@@ -20,7 +20,7 @@ use Rattle.profile_file.specs.File.{blockBytes, tuplesFrom, tuplesSize, profile
 use Rattle.profile_file.specs.Check.{entriesListed, profilesListed, sortedRule, sizesFit, contextsFit, countsRule, sizesCheck, writeCheck}
 use Rattle.profile_file.proofs.Lengths.{length-tuples, length-file}
 use Rattle.profile_file.proofs.Checks.{sorted-iff}
-use Rattle.profile_lists.specs.Lent.{wordOf, entriesIn, surveyOf, allThere, lentCheck}
+use Rattle.profile_lists.specs.Lists.{wordOf, entriesIn, surveyOf, allThere, listsCheck}
 use Rattle.profile_lists.proofs.Tests.{leb-same}
 
 -- ---- 7 and 17
@@ -99,8 +99,8 @@ module _ (profiles tuples identifiers entries : List ℕ) (room : ℕ) where
         ap₂ _&&_ listed-is (leb-same claimed most (claims * 16) (length identifiers) (λ l. omega (arith, claimed-is)) (λ l. omega (arith, claimed-is)))
 
     pub lists-broken : (listed && leb claimed (length identifiers / 16)) ≡ false
-        → Refused No.Index ≡ lentCheck profiles tuples identifiers entries room
-    unfolding lentCheck writeCheck
+        → Refused No.Index ≡ listsCheck profiles tuples identifiers entries room
+    unfolding listsCheck writeCheck
     lists-broken e =
         after-refused (first (rule (sortedRule (survey .entries)) No.Order) (sizesCheck survey room))
         (rule-broken No.Index (broken-two (profilesListed survey) there (entriesListed (survey .entries) (survey .profiles)) (sym told ∙ e)))
@@ -111,10 +111,10 @@ module _ (profiles tuples identifiers entries : List ℕ) (room : ℕ) where
           let l = leb-true claimed (length identifiers / 16) (both listed (leb claimed (length identifiers / 16)) .0 kept .1) in
           (omega (arith, claimed-is), omega arith)
 
-      pub lists-kept : lentCheck profiles tuples identifiers entries room
+      pub lists-kept : listsCheck profiles tuples identifiers entries room
           ≡ first (first (rule (entriesListed (entriesIn entries) (length profiles)) No.Index) (rule (sortedRule (entriesIn entries)) No.Order))
           (sizesCheck (surveyOf profiles tuples identifiers entries) room)
-      unfolding lentCheck writeCheck
+      unfolding listsCheck writeCheck
       lists-kept =
           let all = entriesListed (survey .entries) (survey .profiles) in
           rw (kept-two (profilesListed survey) there all (sym told ∙ kept))

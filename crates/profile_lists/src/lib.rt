@@ -7,11 +7,11 @@ ghost use Rattle.layout.specs.Many.{many};
 ghost use Rattle.refusal.specs.declared.Refusal.the-variants as No;
 ghost use Rattle.refusal.specs.Check as Rules;
 ghost use Rattle.seq.specs.Sequence.{every, sum};
-ghost use Rattle.block_file.specs.Written.{leads, groupsOf};
+ghost use Rattle.block_file.specs.Pairs.{leads, groupsOf};
 ghost use Rattle.profile_file.specs.Survey.{Ascending, runStart, pairsOf};
 ghost use Rattle.profile_file.specs.File.{blockBytes};
 ghost use Rattle.profile_file.specs.Check.{entriesListed, beforeRule, sortedRule, contextsFit, sizesCheck};
-ghost use Rattle.profile_lists.specs.Lent.{wordOf, entriesIn, surveyOf, lentCheck};
+ghost use Rattle.profile_lists.specs.Lists.{wordOf, entriesIn, surveyOf, listsCheck};
 use refusal::Check;
 use refusal::Refusal;
 
@@ -234,7 +234,7 @@ pub fn check(
     entries: &[u8],
     room: usize,
 ) -> Check
-    ensures { λ r. ⌜ r ≡ lentCheck (now (profiles .entry)) (now (tuples .entry)) (now (identifiers .entry)) (now (entries .entry)) room ⌝ }
+    ensures { λ r. ⌜ r ≡ listsCheck (now (profiles .entry)) (now (tuples .entry)) (now (identifiers .entry)) (now (entries .entry)) room ⌝ }
 {
     let most = identifiers.len() as u64 / 16;
     let identifications = claimed(tuples, most);

@@ -22,11 +22,11 @@ use Rattle.block.specs.Block.{blockAt, idAt, wordAt, rangeRule, startOf, endOf,
 use Rattle.lookup.specs.Lookup.{checkedBlock, checkedAt, onChecked, profileBlock, profileLookup}
 use Rattle.tuple.specs.declared.Identifier.the-variants as Identification
 use Rattle.tuple.specs.Tuple.{identifiers, tupleRule, tupleOf, tupleIn, tupleAt, identifierOf, onTuple, identifierIn, identifierAt}
-use Rattle.block_file.specs.Written.{leads, groups, valueElement, indexElement, written, indicesFrom, blockOf, headerBytes}
+use Rattle.block_file.specs.Pairs.{leads, groups, valueElement, indexElement, written, indicesFrom, blockOf, headerBytes}
 use Rattle.profile_file.specs.Survey.{countBelow, runStart, runLength}
 use Rattle.profile_file.specs.File.{identificationBytes, tupleBytes, blockBytes, tuplesFrom, tuplesSize, tupleFrom, blockFrom, blockHeader, infoBytes, fileHeader, infosHeader, profileFile}
 use Rattle.profile_file.specs.Check.{entriesListed, profilesListed, beforeRule, sortedRule, sizesFit, contextsFit, countsRule, sizesCheck, writeCheck}
-use Rattle.profile_lists.specs.Lent.{allThere, lentCheck}
+use Rattle.profile_lists.specs.Lists.{allThere, listsCheck}
 use Rattle.profile_writer.specs.declared.Written.the-variants.{Of, Refused}
 use Rattle.profile_writer.specs.Write.{writeAnswer, writeFile}
 
@@ -64,7 +64,7 @@ pub answers : writeAnswer profiles tuples only entries 248
     ∷ Refused No.Index
     ∷ Of 72
     ∷ []
-unfolding profileFile fileHeader infosHeader tuplesFrom tuplesSize tupleFrom blockFrom blockHeader infoBytes identificationBytes tupleBytes blockBytes runLength runStart countBelow many fields bytes join written valueElement indexElement zeros toFour leads groups either headerBytes blockOf indicesFrom placeFor number starts stands rule first ifPassed pairAt pairsFrom pairs sectionRule strideRule arrayRule field numberAt strideRules contentRule headerRule frontRules inOrder sectionCheck headerCheck openingWith opening onOpened elementAt onElement arrayOf apart apartAll lies every floor rises position blockAt idAt wordAt rangeRule startOf endOf partOf partAt orderRule blockCheck valueAt inPart indexOf lookupIn checkedBlock checkedAt profileBlock onChecked profileLookup identifiers tupleRule tupleOf tupleIn tupleAt identifierOf onTuple identifierIn identifierAt entriesListed profilesListed beforeRule sortedRule sizesFit contextsFit countsRule sizesCheck writeCheck allThere lentCheck writeAnswer writeFile sum over
+unfolding profileFile fileHeader infosHeader tuplesFrom tuplesSize tupleFrom blockFrom blockHeader infoBytes identificationBytes tupleBytes blockBytes runLength runStart countBelow many fields bytes join written valueElement indexElement zeros toFour leads groups either headerBytes blockOf indicesFrom placeFor number starts stands rule first ifPassed pairAt pairsFrom pairs sectionRule strideRule arrayRule field numberAt strideRules contentRule headerRule frontRules inOrder sectionCheck headerCheck openingWith opening onOpened elementAt onElement arrayOf apart apartAll lies every floor rises position blockAt idAt wordAt rangeRule startOf endOf partOf partAt orderRule blockCheck valueAt inPart indexOf lookupIn checkedBlock checkedAt profileBlock onChecked profileLookup identifiers tupleRule tupleOf tupleIn tupleAt identifierOf onTuple identifierIn identifierAt entriesListed profilesListed beforeRule sortedRule sizesFit contextsFit countsRule sizesCheck writeCheck allThere listsCheck writeAnswer writeFile sum over
 answers = refl
 
 -- over 250 bytes of 255
@@ -72,7 +72,7 @@ abbrev after : List ℕ
 after = writeFile profiles tuples only entries (replicate 250 255)
 
 pub rest : drop 248 after ≡ 255 ∷ 255 ∷ []
-unfolding profileFile fileHeader infosHeader tuplesFrom tuplesSize tupleFrom blockFrom blockHeader infoBytes identificationBytes tupleBytes blockBytes runLength runStart countBelow many fields bytes join written valueElement indexElement zeros toFour leads groups either headerBytes blockOf indicesFrom placeFor number starts stands rule first ifPassed pairAt pairsFrom pairs sectionRule strideRule arrayRule field numberAt strideRules contentRule headerRule frontRules inOrder sectionCheck headerCheck openingWith opening onOpened elementAt onElement arrayOf apart apartAll lies every floor rises position blockAt idAt wordAt rangeRule startOf endOf partOf partAt orderRule blockCheck valueAt inPart indexOf lookupIn checkedBlock checkedAt profileBlock onChecked profileLookup identifiers tupleRule tupleOf tupleIn tupleAt identifierOf onTuple identifierIn identifierAt entriesListed profilesListed beforeRule sortedRule sizesFit contextsFit countsRule sizesCheck writeCheck allThere lentCheck writeAnswer writeFile sum over
+unfolding profileFile fileHeader infosHeader tuplesFrom tuplesSize tupleFrom blockFrom blockHeader infoBytes identificationBytes tupleBytes blockBytes runLength runStart countBelow many fields bytes join written valueElement indexElement zeros toFour leads groups either headerBytes blockOf indicesFrom placeFor number starts stands rule first ifPassed pairAt pairsFrom pairs sectionRule strideRule arrayRule field numberAt strideRules contentRule headerRule frontRules inOrder sectionCheck headerCheck openingWith opening onOpened elementAt onElement arrayOf apart apartAll lies every floor rises position blockAt idAt wordAt rangeRule startOf endOf partOf partAt orderRule blockCheck valueAt inPart indexOf lookupIn checkedBlock checkedAt profileBlock onChecked profileLookup identifiers tupleRule tupleOf tupleIn tupleAt identifierOf onTuple identifierIn identifierAt entriesListed profilesListed beforeRule sortedRule sizesFit contextsFit countsRule sizesCheck writeCheck allThere listsCheck writeAnswer writeFile sum over
 rest = refl
 
 abbrev found : (profile context metric : ℕ) → Lookup
@@ -80,9 +80,9 @@ found profile context metric = profileLookup (take 248 after) profile context me
 
 pub lookups : found 0 5 4 ∷ found 0 9 2 ∷ found 0 9 4 ∷ found 1 5 1 ∷ found 2 5 1 ∷ []
     ≡ Lookup.Found 0x4008000000000000 ∷ Lookup.Found 0 ∷ Lookup.Absent ∷ Lookup.Absent ∷ Lookup.Refused No.Index ∷ []
-unfolding profileFile fileHeader infosHeader tuplesFrom tuplesSize tupleFrom blockFrom blockHeader infoBytes identificationBytes tupleBytes blockBytes runLength runStart countBelow many fields bytes join written valueElement indexElement zeros toFour leads groups either headerBytes blockOf indicesFrom placeFor number starts stands rule first ifPassed pairAt pairsFrom pairs sectionRule strideRule arrayRule field numberAt strideRules contentRule headerRule frontRules inOrder sectionCheck headerCheck openingWith opening onOpened elementAt onElement arrayOf apart apartAll lies every floor rises position blockAt idAt wordAt rangeRule startOf endOf partOf partAt orderRule blockCheck valueAt inPart indexOf lookupIn checkedBlock checkedAt profileBlock onChecked profileLookup identifiers tupleRule tupleOf tupleIn tupleAt identifierOf onTuple identifierIn identifierAt entriesListed profilesListed beforeRule sortedRule sizesFit contextsFit countsRule sizesCheck writeCheck allThere lentCheck writeAnswer writeFile sum over
+unfolding profileFile fileHeader infosHeader tuplesFrom tuplesSize tupleFrom blockFrom blockHeader infoBytes identificationBytes tupleBytes blockBytes runLength runStart countBelow many fields bytes join written valueElement indexElement zeros toFour leads groups either headerBytes blockOf indicesFrom placeFor number starts stands rule first ifPassed pairAt pairsFrom pairs sectionRule strideRule arrayRule field numberAt strideRules contentRule headerRule frontRules inOrder sectionCheck headerCheck openingWith opening onOpened elementAt onElement arrayOf apart apartAll lies every floor rises position blockAt idAt wordAt rangeRule startOf endOf partOf partAt orderRule blockCheck valueAt inPart indexOf lookupIn checkedBlock checkedAt profileBlock onChecked profileLookup identifiers tupleRule tupleOf tupleIn tupleAt identifierOf onTuple identifierIn identifierAt entriesListed profilesListed beforeRule sortedRule sizesFit contextsFit countsRule sizesCheck writeCheck allThere listsCheck writeAnswer writeFile sum over
 lookups = refl
 
 pub shared-tuple : identifierAt (take 248 after) 1 0 ≡ Identification.Of 7 65535 3 9
-unfolding profileFile fileHeader infosHeader tuplesFrom tuplesSize tupleFrom blockFrom blockHeader infoBytes identificationBytes tupleBytes blockBytes runLength runStart countBelow many fields bytes join written valueElement indexElement zeros toFour leads groups either headerBytes blockOf indicesFrom placeFor number starts stands rule first ifPassed pairAt pairsFrom pairs sectionRule strideRule arrayRule field numberAt strideRules contentRule headerRule frontRules inOrder sectionCheck headerCheck openingWith opening onOpened elementAt onElement arrayOf apart apartAll lies every floor rises position blockAt idAt wordAt rangeRule startOf endOf partOf partAt orderRule blockCheck valueAt inPart indexOf lookupIn checkedBlock checkedAt profileBlock onChecked profileLookup identifiers tupleRule tupleOf tupleIn tupleAt identifierOf onTuple identifierIn identifierAt entriesListed profilesListed beforeRule sortedRule sizesFit contextsFit countsRule sizesCheck writeCheck allThere lentCheck writeAnswer writeFile sum over
+unfolding profileFile fileHeader infosHeader tuplesFrom tuplesSize tupleFrom blockFrom blockHeader infoBytes identificationBytes tupleBytes blockBytes runLength runStart countBelow many fields bytes join written valueElement indexElement zeros toFour leads groups either headerBytes blockOf indicesFrom placeFor number starts stands rule first ifPassed pairAt pairsFrom pairs sectionRule strideRule arrayRule field numberAt strideRules contentRule headerRule frontRules inOrder sectionCheck headerCheck openingWith opening onOpened elementAt onElement arrayOf apart apartAll lies every floor rises position blockAt idAt wordAt rangeRule startOf endOf partOf partAt orderRule blockCheck valueAt inPart indexOf lookupIn checkedBlock checkedAt profileBlock onChecked profileLookup identifiers tupleRule tupleOf tupleIn tupleAt identifierOf onTuple identifierIn identifierAt entriesListed profilesListed beforeRule sortedRule sizesFit contextsFit countsRule sizesCheck writeCheck allThere listsCheck writeAnswer writeFile sum over
 shared-tuple = refl

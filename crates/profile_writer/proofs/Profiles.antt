@@ -21,7 +21,7 @@ use Rattle.put.proofs.Fields.{over-many-none, over-many-more}
 use Rattle.put.proofs.Stands.{stands-behind, stands-before}
 use Rattle.seq.specs.Sequence.{sum}
 use Rattle.open.specs.Opening.{placeFor}
-use Rattle.block_file.specs.Written.{groupsOf, indicesFrom, blockOf, headerBytes}
+use Rattle.block_file.specs.Pairs.{groupsOf, indicesFrom, blockOf, headerBytes}
 use Rattle.profile_file.specs.Survey.{Survey, Ascending, runStart, runLength, pairsOf}
 use Rattle.profile_file.specs.File.{tupleBytes, blockBytes, tuplesFrom, tuplesSize, tupleFrom, blockFrom, blockHeader, infoBytes, profileFile}
 use Rattle.profile_file.specs.Facts.{AllListed, CountsFit}
@@ -30,7 +30,7 @@ use Rattle.profile_file.proofs.Runs.{first-run}
 use Rattle.profile_file.proofs.Lengths.{length-tuple, length-tuples, length-info, length-infos, length-file, padding-of}
 use Rattle.profile_file.proofs.Places.{block-ends}
 use Rattle.profile_file.proofs.Checks.{every-iff, check-decides}
-use Rattle.profile_lists.specs.Lent.{wordOf, tuplesIn, surveyOf, allThere, lentCheck}
+use Rattle.profile_lists.specs.Lists.{wordOf, tuplesIn, surveyOf, allThere, listsCheck}
 use Rattle.profile_writer.specs.Table.{placeOfTuple, placesOf}
 
 -- ---- what a check that passed says
@@ -41,15 +41,15 @@ pub record Ready (s : Survey) (room : ℕ) : Type 0 where
   pub counted : CountsFit s
   pub has-room : length (profileFile s) ≤ room
 
-module _ (profiles tuples identifiers entries : List ℕ) (room : ℕ) (e : lentCheck profiles tuples identifiers entries room ≡ Passed) where
+module _ (profiles tuples identifiers entries : List ℕ) (room : ℕ) (e : listsCheck profiles tuples identifiers entries room ≡ Passed) where
   pub ready : Ready (surveyOf profiles tuples identifiers entries) room
-  unfolding lentCheck
+  unfolding listsCheck
   ready =
       let d = check-decides (surveyOf profiles tuples identifiers entries) (allThere tuples identifiers) room .passes .0 e in
       record { listed = d .0 .0; sorted = d .1 .0; counted = d .1 .1 .0; has-room = d .1 .1 .1 }
 
   all-there : allThere tuples identifiers ≡ true
-  unfolding lentCheck
+  unfolding listsCheck
   all-there = check-decides (surveyOf profiles tuples identifiers entries) (allThere tuples identifiers) room .passes .0 e .0 .1
 
   pub claims-there : sum (wordOf tuples) (length tuples) * 16 ≤ length identifiers

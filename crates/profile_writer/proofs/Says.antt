@@ -29,7 +29,7 @@ use Rattle.profile_file.specs.ReadsBack.{ReadsBack}
 use Rattle.profile_file.proofs.Checks.{check-decides}
 use Rattle.profile_file.proofs.Most.{file-most}
 use Rattle.profile_file.proofs.Promise.{reads-back}
-use Rattle.profile_lists.specs.Lent.{wordOf, entriesIn, surveyOf, allThere, lentCheck}
+use Rattle.profile_lists.specs.Lists.{wordOf, entriesIn, surveyOf, allThere, listsCheck}
 use Rattle.profile_writer.specs.declared.Written.{Written}
 use Rattle.profile_writer.specs.declared.Written.the-variants.{Of, Refused}
 use Rattle.profile_writer.specs.Write.{writeAnswer, writeFile}
@@ -82,7 +82,7 @@ module _ (profiles tuples identifiers entries file : List ℕ) (octets : Octets 
   survey = surveyOf profiles tuples identifiers entries
 
   abbrev check : Check
-  check = lentCheck profiles tuples identifiers entries (length file)
+  check = listsCheck profiles tuples identifiers entries (length file)
 
   abbrev L : Type 0
   L = Listed profiles tuples identifiers entries
@@ -107,7 +107,7 @@ module _ (profiles tuples identifiers entries file : List ℕ) (octets : Octets 
   )
 
   decided : Decides check (A × (U × (C × R))) (Broken A U C R)
-  unfolding lentCheck
+  unfolding listsCheck
   decided = check-decides survey (allThere tuples identifiers) (length file)
 
   abbrev answer : Written

@@ -16,7 +16,7 @@ use Rattle.profile_file.specs.Survey.{Survey, Ascending}
 use Rattle.profile_file.specs.File.{profileFile}
 use Rattle.profile_file.specs.Facts.{AllListed, CountsFit}
 use Rattle.profile_file.specs.ReadsBack.{ReadsBack}
-use Rattle.profile_lists.specs.Lent.{wordOf, entriesIn, surveyOf}
+use Rattle.profile_lists.specs.Lists.{wordOf, entriesIn, surveyOf}
 use Rattle.profile_writer.specs.declared.Written.{Written}
 use Rattle.profile_writer.specs.declared.Written.the-variants.{Of, Refused}
 

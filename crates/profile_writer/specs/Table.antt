@@ -4,7 +4,7 @@ use mathlib.Core.List.{List}
 use Rattle.layout.specs.Bytes.{bytes}
 use Rattle.layout.specs.Many.{many}
 use Rattle.seq.specs.Sequence.{sum}
-use Rattle.profile_lists.specs.Lent.{wordOf}
+use Rattle.profile_lists.specs.Lists.{wordOf}
 
 -- where tuple t is, of tuples that are at a place
 abbrev pub placeOfTuple : (tuples : List ℕ) (at t : ℕ) → ℕ

@@ -6,7 +6,7 @@ use Rattle.refusal.specs.Check.{ifPassed}
 use Rattle.refusal.specs.Words.{refusedWords}
 use Rattle.buffer.specs.Over.{over}
 use Rattle.profile_file.specs.File.{profileFile}
-use Rattle.profile_lists.specs.Lent.{surveyOf, lentCheck}
+use Rattle.profile_lists.specs.Lists.{surveyOf, listsCheck}
 use Rattle.profile_writer.specs.declared.Written.{Written}
 use Rattle.profile_writer.specs.declared.Written.the-variants.{Of, Refused}
 
@@ -14,12 +14,12 @@ module _ (profiles tuples identifiers entries : List ℕ) where
   -- the file's length, or the refusal
   unfoldable pub writeAnswer : (room : ℕ) → Written
   writeAnswer room =
-      ifPassed Refused (lentCheck profiles tuples identifiers entries room) (Of (length (profileFile (surveyOf profiles tuples identifiers entries))))
+      ifPassed Refused (listsCheck profiles tuples identifiers entries room) (Of (length (profileFile (surveyOf profiles tuples identifiers entries))))
 
   -- the lent bytes afterwards: as they were where writing is refused, else with the file over them
   unfoldable pub writeFile : (file : List ℕ) → List ℕ
   writeFile file =
-      ifPassed (λ r. file) (lentCheck profiles tuples identifiers entries (length file))
+      ifPassed (λ r. file) (listsCheck profiles tuples identifiers entries (length file))
       (over file 0 (profileFile (surveyOf profiles tuples identifiers entries)))
 
 -- an answer in words: its number, then the length

@@ -14,11 +14,11 @@ ghost use Rattle.seq.specs.Sequence.{sum};
 ghost use Rattle.open.specs.Format as Format;
 ghost use Rattle.open.specs.Opening.{placeFor};
 ghost use Rattle.block.specs.Block.{profileShape};
-ghost use Rattle.block_file.specs.Written.{groups, indexElement, values, groupsOf};
+ghost use Rattle.block_file.specs.Pairs.{groups, indexElement, valueArray, groupsOf};
 ghost use Rattle.profile_file.specs.Survey.{Ascending, runStart, runLength, pairsOf};
 ghost use Rattle.profile_file.specs.File.{identificationBytes, tupleBytes, blockBytes, tuplesFrom, tuplesSize, infoBytes, profileFile};
 ghost use Rattle.profile_file.specs.Check.{sizesFit};
-ghost use Rattle.profile_lists.specs.Lent.{wordOf, entriesIn, tuplesIn, surveyOf, lentCheck};
+ghost use Rattle.profile_lists.specs.Lists.{wordOf, entriesIn, tuplesIn, surveyOf, listsCheck};
 ghost use Rattle.profile_writer.specs.Table.{placesOf};
 ghost use Rattle.profile_writer.specs.Write.{writeAnswer, writeFile};
 use profile_lists::Run;
@@ -54,7 +54,7 @@ fn put_values(file: &mut [u8], at: usize, entries: &[u8], p: usize, start: usize
     requires { ⌜ start ≡ runStart (entriesIn (now entries)) p ⌝ }
     requires { ⌜ at + runLength (entriesIn (now entries)) p * 10 ≤ length (now file) ⌝ }
     ensures end { λ r. ⌜ r ≡ runStart (entriesIn (now (entries .entry))) (p + 1) ⌝ }
-    ensures bytes { λ _. ⌜ now (file .exit) ≡ over (now (file .entry)) at (values profileShape (pairsOf (entriesIn (now (entries .entry))) p)) ⌝ }
+    ensures bytes { λ _. ⌜ now (file .exit) ≡ over (now (file .entry)) at (valueArray profileShape (pairsOf (entriesIn (now (entries .entry))) p)) ⌝ }
 {
     let n = entries.len() / 24;
     let mut k: usize = 0;
@@ -160,7 +160,7 @@ fn put_profiles(
     table: usize,
     blocks: usize,
 ) -> usize
-    requires { ⌜ lentCheck (now profiles) (now tuples) (now identifiers) (now entries) (length (now file)) ≡ Check.Passed ⌝ }
+    requires { ⌜ listsCheck (now profiles) (now tuples) (now identifiers) (now entries) (length (now file)) ≡ Check.Passed ⌝ }
     requires { ⌜ Stands (now file) table (placesOf (now tuples) table (length (now tuples))) ⌝ }
     requires { ⌜ table ≡ tuplesFrom (surveyOf (now profiles) (now tuples) (now identifiers) (now entries)) ⌝ }
     requires { ⌜ blocks ≡ table + tuplesSize (surveyOf (now profiles) (now tuples) (now identifiers) (now entries)) ⌝ }
@@ -298,7 +298,7 @@ fn put_file(
     identifiers: &[u8],
     entries: &[u8],
 ) -> usize
-    requires { ⌜ lentCheck (now profiles) (now tuples) (now identifiers) (now entries) (length (now file)) ≡ Check.Passed ⌝ }
+    requires { ⌜ listsCheck (now profiles) (now tuples) (now identifiers) (now entries) (length (now file)) ≡ Check.Passed ⌝ }
     ensures end { λ r. ⌜ r ≡ length (profileFile (surveyOf (now (profiles .entry)) (now (tuples .entry)) (now (identifiers .entry)) (now (entries .entry)))) ⌝ }
     ensures bytes { λ _. ⌜ now (file .exit) ≡ over (now (file .entry)) 0 (profileFile (surveyOf (now (profiles .entry)) (now (tuples .entry)) (now (identifiers .entry)) (now (entries .entry)))) ⌝ }
 {

@@ -169,8 +169,8 @@ fn no_identifiers() -> [u8; IDENTIFIERS]
 fn case(line: &[u8], profiles: &[u64], tuples: &[u64]) {
     let name = script::word(line, 0);
     let second = name.len() + 1;
-    let lent = script::word(line, second);
-    let third = second + lent.len() + 1;
+    let bytes = script::word(line, second);
+    let third = second + bytes.len() + 1;
     let entries = script::word(line, third);
     let room = script::word(line, third + entries.len() + 1);
     let fd = os::open_read(name);
@@ -184,7 +184,7 @@ fn case(line: &[u8], profiles: &[u64], tuples: &[u64]) {
     with_entries(
         profiles,
         tuples,
-        first(&buffer, size(lent)),
+        first(&buffer, size(bytes)),
         entries,
         size(room),
     );

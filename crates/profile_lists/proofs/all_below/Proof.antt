@@ -11,7 +11,7 @@ use lib.ListN.{length}
 use denote.Ref.{now}
 use Rattle.seq.specs.Sequence.{every}
 use Rattle.seq.proofs.Every.{every-none, every-more, every-not}
-use Rattle.profile_lists.specs.Lent.{wordOf}
+use Rattle.profile_lists.specs.Lists.{wordOf}
 use Rattle.profile_lists.proofs.all_below.Statement.{statement}
 use Rattle.profile_lists.proofs.all_below.Tie as tie
 

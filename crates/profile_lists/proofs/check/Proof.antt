@@ -6,7 +6,7 @@ use lib.ListN.{length}
 use denote.Ref.{now}
 use Rattle.refusal.proofs.Checks.{after-passed, after-refused}
 use Rattle.profile_file.specs.Check.{sizesCheck}
-use Rattle.profile_lists.specs.Lent.{entriesIn, surveyOf}
+use Rattle.profile_lists.specs.Lists.{entriesIn, surveyOf}
 use Rattle.profile_lists.proofs.Stages.{passed-sorted, lists-broken, all-claimed, lists-kept}
 use Rattle.profile_lists.proofs.check.Statement.{statement}
 use Rattle.profile_lists.proofs.check.Tie as tie

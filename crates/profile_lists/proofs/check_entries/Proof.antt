@@ -4,7 +4,7 @@ use native.Mathlib.Omega.{arith}
 use borrow.Author.Needs.{needs}
 use denote.Ref.{now}
 use Rattle.refusal.specs.Check.{rule, first}
-use Rattle.profile_lists.specs.Lent.{entriesIn}
+use Rattle.profile_lists.specs.Lists.{entriesIn}
 use Rattle.profile_lists.proofs.Loops.{Checking, none-listed, none-sorted, checking-first, checking-more, checking-all}
 use Rattle.profile_lists.proofs.check_entries.Statement.{statement}
 use Rattle.profile_lists.proofs.check_entries.Tie as tie

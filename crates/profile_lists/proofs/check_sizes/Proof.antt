@@ -4,7 +4,7 @@ use borrow.Author.Needs.{needs}
 use borrow.Author.Tests.{not-true, not-false}
 use denote.Ref.{now}
 use Rattle.profile_file.specs.Check.{sizesFit}
-use Rattle.profile_lists.specs.Lent.{surveyOf}
+use Rattle.profile_lists.specs.Lists.{surveyOf}
 use Rattle.profile_lists.proofs.Stages.{many-profiles, large-tuples, sizes-left}
 use Rattle.profile_lists.proofs.check_sizes.Statement.{statement}
 use Rattle.profile_lists.proofs.check_sizes.Tie as tie

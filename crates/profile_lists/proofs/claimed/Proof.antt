@@ -7,7 +7,7 @@ use lib.ListN.{length}
 use denote.Ref.{now}
 use Rattle.seq.specs.Sequence.{sum}
 use Rattle.seq.proofs.Sum.{sum-none, sum-more, sum-ends}
-use Rattle.profile_lists.specs.Lent.{wordOf}
+use Rattle.profile_lists.specs.Lists.{wordOf}
 use Rattle.profile_lists.proofs.claimed.Statement.{statement}
 use Rattle.profile_lists.proofs.claimed.Tie as tie
 

@@ -6,8 +6,8 @@ use native.Mathlib.Omega.{arith}
 use borrow.Author.Needs.{needs}
 use denote.Ref.{now}
 use lib.Dec.{eqb}
-use Rattle.profile_lists.specs.Lent.{entriesIn}
-use Rattle.block_file.specs.Written.{leads}
+use Rattle.profile_lists.specs.Lists.{entriesIn}
+use Rattle.block_file.specs.Pairs.{leads}
 use Rattle.profile_lists.proofs.leads_at.Statement.{statement}
 use Rattle.profile_lists.proofs.leads_at.Tie as tie
 

@@ -5,7 +5,7 @@ use mathlib.Core.Path.{_≡_}
 use native.Mathlib.Omega.{arith}
 use borrow.Author.Needs.{needs}
 use denote.Ref.{now}
-use Rattle.profile_lists.specs.Lent.{entriesIn}
+use Rattle.profile_lists.specs.Lists.{entriesIn}
 use Rattle.profile_lists.proofs.Loops.{Measured, measured-none, measured-more, turn-most}
 use Rattle.profile_lists.proofs.measure.Statement.{statement}
 use Rattle.profile_lists.proofs.measure.Tie as tie

@@ -6,7 +6,7 @@ use native.Mathlib.Omega.{arith}
 use borrow.Author.Needs.{needs}
 use borrow.Author.Tests.{eqb-true, eqb-false}
 use denote.Ref.{now}
-use Rattle.profile_lists.specs.Lent.{entriesIn}
+use Rattle.profile_lists.specs.Lists.{entriesIn}
 use Rattle.profile_lists.proofs.Loops.{Counting, counting-none, counting-most, counting-leader, counting-other, counting-all}
 use Rattle.profile_lists.proofs.run_at.Statement.{statement}
 use Rattle.profile_lists.proofs.run_at.Tie as tie

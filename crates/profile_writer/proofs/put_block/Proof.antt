@@ -11,13 +11,13 @@ use Rattle.layout.proofs.Many.{length-zeros}
 use Rattle.buffer.specs.Over.{over}
 use Rattle.buffer.proofs.Laws.{over-append, length-over}
 use Rattle.block.specs.Block.{profileShape}
-use Rattle.block_file.specs.Written.{groups, indexElement, values, indices, groupsOf, written}
+use Rattle.block_file.specs.Pairs.{groups, indexElement, valueArray, indexArray, groupsOf, written}
 use Rattle.block_file.proofs.Readback.{length-values}
 use Rattle.profile_file.specs.Survey.{Entries, runStart, runLength, pairsOf}
 use Rattle.profile_file.specs.File.{blockBytes}
 use Rattle.profile_file.proofs.Runs.{run-le, run-next}
 use Rattle.profile_file.proofs.Lengths.{length-block, padding-of}
-use Rattle.profile_lists.specs.Lent.{entriesIn}
+use Rattle.profile_lists.specs.Lists.{entriesIn}
 use Rattle.profile_writer.proofs.put_block.Statement.{statement}
 use Rattle.profile_writer.proofs.put_block.Tie as tie
 
@@ -31,11 +31,11 @@ same-groups : (e : Entries) (p start held : ℕ) → start ≡ runStart e p → 
 same-groups e p start held s h = rw (s, h)
 
 same-indices : (e : Entries) (p start held : ℕ) → start ≡ runStart e p → held ≡ runLength e p
-    → many (indexElement 4 (λ k. e .context (start + k))) held ≡ indices profileShape (pairsOf e p)
+    → many (indexElement 4 (λ k. e .context (start + k))) held ≡ indexArray profileShape (pairsOf e p)
 same-indices e p start held s h = rw (s, h)
 
 parts-of : (e : Entries) (p : ℕ)
-    → blockBytes e p ≡ values profileShape (pairsOf e p) ++ (zeros (toFour (runLength e p * 10)) ++ indices profileShape (pairsOf e p))
+    → blockBytes e p ≡ valueArray profileShape (pairsOf e p) ++ (zeros (toFour (runLength e p * 10)) ++ indexArray profileShape (pairsOf e p))
 unfolding blockBytes written join zeros
 parts-of e p = rw (none-behind (groupsOf (pairsOf e p)), append-nil)
 
@@ -130,9 +130,9 @@ returns c =
     let put-padding = c .before .before .before .before .before .before .put-padding in
     let e = entriesIn (a .entries .now) in
     let held : put-values .result - a .start ≡ runLength e (a .p) = omega (arith, put-values .ensures .0, pre .1 .0, run-next e (pre .0) (a .p)) in
-    let v = values profileShape (pairsOf e (a .p)) in
+    let v = valueArray profileShape (pairsOf e (a .p)) in
     let z = zeros (toFour (runLength e (a .p) * 10)) in
-    let x = indices profileShape (pairsOf e (a .p)) in
+    let x = indexArray profileShape (pairsOf e (a .p)) in
     let n : length v ≡ runLength e (a .p) * 10 = length-values 2 (pairsOf e (a .p) .inner) (pairsOf e (a .p) .bits) (runLength e (a .p)) in
     let bytes : c .before .before .put-indices .last .0 ≡ over (over (over (a .file .now) (a .at) v) (a .at + length v) z) (a .at + length v + length z) x =
     rw (c .before .before .put-indices .ensures .1, same-indices e (a .p) (a .start) _ (pre .1 .0) held, put-padding .ensures .1, put-padding .ensures .0, put-values .ensures .1, held, n, length-zeros) in (

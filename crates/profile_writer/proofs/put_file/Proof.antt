@@ -10,7 +10,7 @@ use Rattle.buffer.proofs.Laws.{length-over}
 use Rattle.put.proofs.Stands.{stands-here}
 use Rattle.profile_file.specs.File.{blockBytes, tuplesFrom, tuplesSize, fileHeader, infosHeader}
 use Rattle.profile_file.proofs.Lengths.{length-tuples, length-file}
-use Rattle.profile_lists.specs.Lent.{tuplesIn, surveyOf}
+use Rattle.profile_lists.specs.Lists.{tuplesIn, surveyOf}
 use Rattle.profile_writer.specs.Table.{placesOf}
 use Rattle.profile_writer.proofs.Profiles.{ready, front-room, length-places, tuples-from, tuples-long, claims-there, sizes-kept}
 use Rattle.profile_writer.proofs.Whole.{file-written}

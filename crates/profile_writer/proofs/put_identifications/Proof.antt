@@ -10,7 +10,7 @@ use Rattle.buffer.specs.Over.{over}
 use Rattle.buffer.proofs.Laws.{length-over}
 use Rattle.profile_file.specs.File.{identificationBytes}
 use Rattle.profile_file.proofs.Lengths.{length-identifications}
-use Rattle.profile_lists.specs.Lent.{wordOf, tuplesIn}
+use Rattle.profile_lists.specs.Lists.{wordOf, tuplesIn}
 use Rattle.put.proofs.Fields.{over-many-none, over-many-more}
 use Rattle.profile_writer.proofs.put_identifications.Statement.{statement}
 use Rattle.profile_writer.proofs.put_identifications.Tie as tie

@@ -10,10 +10,10 @@ use Rattle.layout.specs.Many.{many}
 use Rattle.buffer.specs.Over.{over}
 use Rattle.buffer.proofs.Laws.{length-over}
 use Rattle.put.proofs.Fields.{over-many-none, over-many-more, many-skip}
-use Rattle.block_file.specs.Written.{groups, indexElement}
+use Rattle.block_file.specs.Pairs.{groups, indexElement}
 use Rattle.block_file.proofs.Groups.{group-yes, group-no, groups-le, groups-none}
 use Rattle.block_file.proofs.Readback.{index-yes, index-no, length-indices}
-use Rattle.profile_lists.specs.Lent.{entriesIn}
+use Rattle.profile_lists.specs.Lists.{entriesIn}
 use Rattle.profile_writer.proofs.put_indices.Statement.{statement}
 use Rattle.profile_writer.proofs.put_indices.Tie as tie
 

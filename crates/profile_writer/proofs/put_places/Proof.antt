@@ -12,7 +12,7 @@ use Rattle.layout.proofs.Laws.{length-bytes}
 use Rattle.layout.proofs.Many.{length-many}
 use Rattle.buffer.specs.Over.{over}
 use Rattle.buffer.proofs.Laws.{length-over}
-use Rattle.profile_lists.specs.Lent.{wordOf}
+use Rattle.profile_lists.specs.Lists.{wordOf}
 use Rattle.seq.proofs.Sum.{sum-none, sum-more, sum-ends}
 use Rattle.put.proofs.Fields.{over-many-none, over-many-more}
 use Rattle.profile_writer.specs.Table.{placeOfTuple, placesOf}

@@ -10,7 +10,7 @@ use Rattle.profile_file.specs.Survey.{runLength}
 use Rattle.profile_file.specs.File.{blockBytes, tuplesFrom, tuplesSize}
 use Rattle.profile_file.proofs.Runs.{run-next}
 use Rattle.profile_file.proofs.Lengths.{length-block}
-use Rattle.profile_lists.specs.Lent.{surveyOf}
+use Rattle.profile_lists.specs.Lists.{surveyOf}
 use Rattle.profile_writer.proofs.Profiles.{ready, info-fields, places-fit, tuples-from, block-from, Growing, growing-none, growing-length, front-room, block-room, next-at, growing-more, place-behind}
 use Rattle.profile_writer.proofs.put_profiles.Statement.{statement}
 use Rattle.profile_writer.proofs.put_profiles.Tie as tie

@@ -13,7 +13,7 @@ use Rattle.seq.specs.Sequence.{sum}
 use Rattle.seq.proofs.Sum.{sum-none, sum-more, sum-ends}
 use Rattle.profile_file.specs.File.{tupleBytes}
 use Rattle.profile_file.proofs.Lengths.{length-tuples}
-use Rattle.profile_lists.specs.Lent.{wordOf, tuplesIn}
+use Rattle.profile_lists.specs.Lists.{wordOf, tuplesIn}
 use Rattle.profile_writer.proofs.Tuples.{size-fits, tuples-more, tuple-inside, over-tuple}
 use Rattle.profile_writer.proofs.put_tuples.Statement.{statement}
 use Rattle.profile_writer.proofs.put_tuples.Tie as tie

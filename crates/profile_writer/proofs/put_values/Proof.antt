@@ -12,11 +12,11 @@ use Rattle.layout.specs.Many.{many}
 use Rattle.buffer.specs.Over.{over}
 use Rattle.buffer.proofs.Laws.{length-over}
 use Rattle.put.proofs.Fields.{over-many-none, over-many-more}
-use Rattle.block_file.specs.Written.{valueElement}
+use Rattle.block_file.specs.Pairs.{valueElement}
 use Rattle.block_file.proofs.Readback.{length-values}
 use Rattle.profile_file.specs.Survey.{runStart, runLength}
 use Rattle.profile_file.proofs.Runs.{run-le, run-in, run-next, run-ends}
-use Rattle.profile_lists.specs.Lent.{entriesIn}
+use Rattle.profile_lists.specs.Lists.{entriesIn}
 use Rattle.profile_writer.proofs.put_values.Statement.{statement}
 use Rattle.profile_writer.proofs.put_values.Tie as tie
 

@@ -52,5 +52,5 @@ surveyOf profiles tuples identifiers entries = record {
 unfoldable pub allThere : (tuples identifiers : List ℕ) → Bool
 allThere tuples identifiers = leb (sum (wordOf tuples) (length tuples) * 16) (length identifiers)
 
-unfoldable pub lentCheck : (profiles tuples identifiers entries : List ℕ) (room : ℕ) → Check
-lentCheck profiles tuples identifiers entries room = writeCheck (surveyOf profiles tuples identifiers entries) (allThere tuples identifiers) room
+unfoldable pub listsCheck : (profiles tuples identifiers entries : List ℕ) (room : ℕ) → Check
+listsCheck profiles tuples identifiers entries room = writeCheck (surveyOf profiles tuples identifiers entries) (allThere tuples identifiers) room

@@ -38,20 +38,20 @@ valueElement w inner bits k = fields (w is inner k ∷ 8 is bits k ∷ [])
 unfoldable pub indexElement : (w : ℕ) (outer : ℕ → ℕ) (k : ℕ) → List ℕ
 indexElement w outer k = either (leads outer k) (fields (w is outer k ∷ 8 is k ∷ [])) []
 
-abbrev pub values : Shape → Pairs → List ℕ
-values h e = many (valueElement (h .inner) (e .inner) (e .bits)) (e .count)
+abbrev pub valueArray : Shape → Pairs → List ℕ
+valueArray h e = many (valueElement (h .inner) (e .inner) (e .bits)) (e .count)
 
-abbrev pub indices : Shape → Pairs → List ℕ
-indices h e = many (indexElement (h .outer) (e .outer)) (e .count)
+abbrev pub indexArray : Shape → Pairs → List ℕ
+indexArray h e = many (indexElement (h .outer) (e .outer)) (e .count)
 
 abbrev pub groupsOf : Pairs → ℕ
 groupsOf e = groups (e .outer) (e .count)
 
 abbrev pub blockParts : Shape → Pairs → List (List ℕ)
 blockParts h e =
-    values h e
+    valueArray h e
     ∷ zeros (toFour (e .count * (h .inner + 8)))
-    ∷ indices h e
+    ∷ indexArray h e
     ∷ zeros (toFour (groupsOf e * (h .outer + 8)))
     ∷ []
 
