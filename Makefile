@@ -39,6 +39,8 @@ check: lib
 	@mkdir -p target/readme
 	@sed -n '/^    #include <stdio.h>/,/^Nothing has/{s/^    //p;/^Nothing has/q}' README.md > target/readme/read.c
 	@$(C) -o target/readme/read target/readme/read.c $(LIB)
+	@sed -n '/^### List/,/^### Write/s/^    //p' README.md > target/readme/list.c
+	@$(C) -o target/readme/list target/readme/list.c $(LIB)
 	@sed -n '/^### Write/,/^## Check/s/^    //p' README.md > target/readme/write.c
 	@$(C) -o target/readme/write target/readme/write.c $(LIB)
 	@cp crates/block_cases/data/p-b.db target/readme/profile.db
@@ -46,7 +48,7 @@ check: lib
 	@target/lookup
 	@target/api
 	@target/write
-	@cd target/readme && { ./read && ./write; } | diff - ../../tests/readme.out
+	@cd target/readme && { ./read && ./list && ./write; } | diff - ../../tests/readme.out
 	@$(CARGO) test --quiet --release --manifest-path $(DIFFERENTIAL)
 	@$(CARGO) run --quiet --release --manifest-path $(DIFFERENTIAL) --bin differential
 	@$(BENCH) --compare
@@ -68,6 +70,7 @@ cases:
 	python3 tools/open_cases.py
 	python3 tools/meta_cases.py
 	python3 tools/walk_cases.py
+	python3 tools/mark_cases.py
 	python3 tools/block_cases.py
 	python3 tools/record_cases.py
 	python3 tools/write_cases.py

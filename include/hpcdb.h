@@ -7,17 +7,17 @@
  * What a caller must keep to:
  *   - a pointer leads to at least as many bytes or words as the length beside it says, words aligned as uint64_t is;
  *   - `out` leads to as many words as its declaration has;
- *   - what is lent to be written (out, listing, table, records, answers, the file of hpcdb_profile_write) overlaps nothing else that is
- *     lent, and no other thread reads or writes it during the call; files, pairs and lists, which are only read, may be shared by any
- *     number of calls;
+ *   - what is lent to be written (out, listing, table, records, new_mark, answers, the file of hpcdb_profile_write) overlaps nothing else
+ *     that is lent, and no other thread reads or writes it during the call; files, marks, pairs and lists, which are only read, may be
+ *     shared by any number of calls;
  *   - the bytes that are only read do not change during a call. A file that is mapped (mmap) may be changed or cut by another process:
  *     then what is read may be part old and part new, or the process is stopped by a signal. Read it into memory where that can happen;
  *   - the floating-point environment is the default one: round to nearest even, subnormal numbers kept. Under another one the totals of
  *     hpcdb_cct_totals may be others; no other function computes with floating-point numbers.
  * A pointer beside the length 0 may be null: nothing is read or written through it.
  *
- * Every function returns a code. HPCDB_OK: the answer stands in `out`. Any other: `out` is as it was (but for the two walks, which always
- * write it). Positions, ids and times are never narrowed: what is too large for its field is not there. Places are offsets from the
+ * Every function returns a code. HPCDB_OK: the answer stands in `out`. Any other: `out` is as it was (but for the three walks, which
+ * always write it). Positions, ids and times are never narrowed: what is too large for its field is not there. Places are offsets from the
  * file's first byte; a string is `length` bytes from `place` on, without the NUL behind them. */
 #ifndef HPCDB_H
 #define HPCDB_H
@@ -28,9 +28,9 @@
 /* The version of the library, which is not that of the format. The second number rises with a change of a declaration here, or of what a
  * code is given for. */
 #define HPCDB_VERSION_MAJOR 0
-#define HPCDB_VERSION_MINOR 4
+#define HPCDB_VERSION_MINOR 5
 #define HPCDB_VERSION_PATCH 0
-#define HPCDB_LIBRARY_VERSION "0.4.0"
+#define HPCDB_LIBRARY_VERSION "0.5.0"
 
 #ifdef __cplusplus
 extern "C" {
@@ -59,7 +59,9 @@ enum hpcdb_code {
     HPCDB_INDEX = 15,      /* a position that is not below its count; a profile, tuple or identification that is not among those to be
                             * written */
     HPCDB_NOT_FINITE = 16, /* infinity or NaN among the values of a total */
-    HPCDB_ROOM = 17,       /* fewer than 8 lent bytes for a value, too few answers for the pairs, or too few bytes for a written file */
+    HPCDB_ROOM = 17,       /* fewer than 8 lent bytes for a value, too few answers for the pairs, too few bytes for a written file, or
+                            * fewer than 805 for a new mark that is asked for */
+    HPCDB_MARK = 18,       /* a mark that is malformed, or that names a context which is not there */
     HPCDB_ABSENT = 100,    /* the file opens, the asked block or line is sound, and there is no such thing in it; no other block, line or
                             * tuple of the file was looked at */
     HPCDB_CUT = 101        /* a walk listed as many contexts as there was room for, and there are more */
@@ -70,7 +72,8 @@ enum hpcdb_code {
  * What a call costs: each one opens the file, which takes the same time for any file (tens of nanoseconds). Names, counts and tuples cost
  * that and the length of their strings. A lookup or a total checks the whole block of its profile or context, a sample its whole line:
  * time in proportion to the values or samples in it. So many values of one block are asked by one hpcdb_*_lookup_many, which checks the
- * block once. A walk visits each context once. hpcdb_profile_write takes time in proportion to its lists. */
+ * block once. A walk clears its table and visits each context once; one that goes on from a mark visits those before the mark too, so that
+ * a listing in k parts costs k walks of what stands before and in them. hpcdb_profile_write takes time in proportion to its lists. */
 
 /* ---- meta.db */
 
@@ -177,8 +180,8 @@ uint32_t hpcdb_meta_function(const uint8_t *file, size_t file_length, uint64_t i
  *       if (code == HPCDB_CUT) listing = realloc(listing, (n *= 2) * 8); else table = realloc(table, (m *= 2) * 8);
  *       if (!listing || !table) ..;
  *   }
- * (with n and m above 0 at first; a ctxId has 32 bits, so that a damaged file may ask for 2^32 slots). The stack holds at most 201 arrays
- * and 201 contexts in each other: with a chain of 201 contexts 58,320 bytes were measured. */
+ * (with n and m above 0 at first; a ctxId has 32 bits, so that a damaged file may ask for 2^32 slots). No call leads to another of its
+ * kind: a walk took 2,272 bytes of the stack, and one from a mark 2,288, with a chain of 201 contexts. */
 uint32_t hpcdb_meta_walk(const uint8_t *file, size_t file_length, uint64_t *listing, size_t listing_length, uint64_t *table,
                          size_t table_length, uint64_t out[1]);
 
@@ -202,6 +205,54 @@ enum hpcdb_record {
  * room for whole ones; its other words are untouched. */
 uint32_t hpcdb_meta_records(const uint8_t *file, size_t file_length, uint64_t *listing, size_t listing_length, uint64_t *table,
                             size_t table_length, uint64_t *records, size_t records_length, uint64_t out[1]);
+
+/* The room for a new mark, in bytes. */
+#define HPCDB_MARK_ROOM 805
+
+/* The same walk, gone on from a mark: it follows the contexts from the first root, and lists those after the one that the mark names.
+ * Record i is that of the i-th listed context. No mark (mark_length 0) is before the first root. `asks` is 0 if no new mark is asked for,
+ * and new_mark is then not looked at; any other number asks for one. A new mark names the last context listed; if none is, it is the mark
+ * that was given (that of depth 0 if none was). A mark may be kept as long as the file is the same, and given with a listing and a table
+ * of other lengths. It has no trace of its file: with another one the walk goes on from whatever context has those numbers there, or MARK.
+ *
+ * The bytes of a mark: u16 length, of the whole mark; u16 kind, 1; u8 depth, at most 200; then for each level, from the root down to the
+ * context, a u32: its number among its siblings, from 0. All are little-endian, and the length is 5 + 4 depth. Depth 0 (05 00 01 00 00)
+ * is before the first root. Only the mark's own bytes are given back, as many as its length says, new_mark[0] + 256 * new_mark[1], and not
+ * the whole buffer: one byte more or less makes it malformed.
+ *
+ * Code and out are those of hpcdb_meta_records. In the order in which they are looked for:
+ *   ROOM     a new mark is asked for, and new_mark_length is below HPCDB_MARK_ROOM;
+ *   1 to 7   opening refuses;
+ *   MARK     the mark is malformed.
+ * After these three n is 0, and all that is lent but out is untouched.
+ *   MARK     all contexts are sound, and the one that the mark names is not among them;
+ *   CONTEXT, LINK, ARRAY, DEEP, SLOT, TWICE   a context is refused, and the one that the mark names was not met before: it comes later,
+ *            is the one refused, or is not there.
+ * After these two n is 0, the table is 0, and listing, records and new_mark are untouched.
+ *   OK, CUT, CONTEXT, LINK, ARRAY, DEEP, SLOT, TWICE   the context that the mark names was met (before the first root nothing needs to be),
+ *            and the contexts after it give this code, as they do without a mark.
+ * Then the table holds the places of all contexts up to the new mark, of those before the given mark too, whether a new one is asked for or
+ * not. If it is, it is written to the first bytes of new_mark, and the bytes behind it are untouched.
+ * So, whatever the code: if n is above 0, and after OK and CUT, a new mark that was asked for is there. With n of 0 and another code the
+ * mark that was given is the one to keep. MARK with a malformed mark leaves the table as it was, and the other MARK makes it 0; so ARRAY
+ * with n of 0 is opening's where the table is as it was.
+ *
+ * Parts joined are one walk: the listings of walks, each from the mark that the one before it handed out, are together the listing of one
+ * walk with as much room as they have together and a table of the same length, and so are their records; its code, table and new mark are
+ * those of the last (where each has HPCDB_MARK_ROOM bytes for the mark it is asked for):
+ *   mark_length = 0;
+ *   do {
+ *       code = hpcdb_meta_walk_from(file, file_length, mark, mark_length, 1, listing, n, table, m, NULL, 0, new_mark,
+ *                                   HPCDB_MARK_ROOM, out);
+ *       if (code != HPCDB_OK && code != HPCDB_CUT) ..; (what is listed stands; with n above 0 so does new_mark)
+ *       mark_length = new_mark[0] + 256 * new_mark[1];
+ *       memcpy(mark, new_mark, mark_length);
+ *       ..
+ *   } while (code == HPCDB_CUT);
+ * (with n above 0: with room for none it would be cut forever). */
+uint32_t hpcdb_meta_walk_from(const uint8_t *file, size_t file_length, const uint8_t *mark, size_t mark_length, uint64_t asks,
+                              uint64_t *listing, size_t listing_length, uint64_t *table, size_t table_length, uint64_t *records,
+                              size_t records_length, uint8_t *new_mark, size_t new_mark_length, uint64_t out[1]);
 
 /* ---- profile.db */
 

@@ -87,6 +87,150 @@ static void walks_of_w(void)
     expect("listed of none", out[0], 0);
 }
 
+/* What a walk from a mark is lent; every word and byte has 0xa5 before. */
+struct lent {
+    uint64_t listing[4], table[5], records[4 * HPCDB_RECORD_WORDS], out[1];
+    uint8_t new_mark[HPCDB_MARK_ROOM + 1];
+};
+
+static struct lent lent;
+
+/* Lends listing words, table words and bytes for a new mark, which is asked for. */
+static uint32_t go_on(const uint8_t *mark, size_t mark_length, size_t listing, size_t table, size_t new_mark)
+{
+    memset(&lent, 0xa5, sizeof lent);
+    return hpcdb_meta_walk_from(file, length, mark, mark_length, 1, lent.listing, listing, lent.table, table, lent.records,
+                                4 * HPCDB_RECORD_WORDS, lent.new_mark, new_mark, lent.out);
+}
+
+static void expect_table(const char *what, size_t n, const uint64_t *want)
+{
+    for (size_t i = 0; i < 5; i++)
+        expect(what, lent.table[i], i < n ? want[i] : 0xa5a5a5a5a5a5a5a5);
+}
+
+/* The new mark, and that the bytes behind it are as they were. */
+static void expect_mark(const char *what, const uint8_t *want, size_t n)
+{
+    size_t end = sizeof lent.new_mark;
+    while (end > n && lent.new_mark[end - 1] == 0xa5)
+        end--;
+    expect(what, end, n);
+    expect(what, memcmp(lent.new_mark, want, n), 0);
+}
+
+static const uint8_t before_the_roots[5] = {5, 0, 1, 0, 0};
+static const uint8_t mark_of_a[9] = {9, 0, 1, 0, 1};
+static const uint8_t mark_of_b[9] = {9, 0, 1, 0, 1, 1};
+static const uint8_t mark_of_c[13] = {13, 0, 1, 0, 2};
+static const uint8_t mark_of_d[13] = {13, 0, 1, 0, 2, 0, 0, 0, 0, 1};
+static const uint8_t mark_of_none[13] = {13, 0, 1, 0, 2, 0, 0, 0, 0, 2};
+static const uint64_t none[5], all[5] = {0, 216, 264, 288, 240}, all_but_b[5] = {0, 216, 264, 288, 0};
+
+static void marks_of_w(void)
+{
+    expect("on from C", go_on(mark_of_c, 13, 1, 5, HPCDB_MARK_ROOM), HPCDB_CUT);
+    expect("listed after C", lent.out[0], 1);
+    expect("the word of D", lent.listing[0], 288);
+    expect("the word behind it", lent.listing[1], 0xa5a5a5a5a5a5a5a5);
+    expect("the record of D", lent.records[HPCDB_RECORD_CTX_ID], 3);
+    expect("the record behind it", lent.records[HPCDB_RECORD_WORDS], 0xa5a5a5a5a5a5a5a5);
+    expect_table("the table up to D", 5, all_but_b);
+    expect_mark("the mark of D", mark_of_d, 13);
+    expect("on from B", go_on(mark_of_b, 9, 4, 5, HPCDB_MARK_ROOM), HPCDB_OK);
+    expect("listed after B", lent.out[0], 0);
+    expect_table("the whole table", 5, all);
+    expect_mark("the mark of B", mark_of_b, 9);
+    expect("on from D", go_on(mark_of_d, 13, 4, 4, HPCDB_MARK_ROOM), HPCDB_SLOT);
+    expect("listed after D", lent.out[0], 0);
+    expect_table("the table without B's slot", 4, all_but_b);
+    expect_mark("the mark of D again", mark_of_d, 13);
+}
+
+static void marks_before_the_roots(void)
+{
+    expect("room for none", go_on(NULL, 0, 0, 5, HPCDB_MARK_ROOM), HPCDB_CUT);
+    expect("listed in no room", lent.out[0], 0);
+    expect_table("a table of none", 5, none);
+    expect_mark("the mark before the roots", before_the_roots, 5);
+    expect("no slot at all", go_on(NULL, 0, 4, 0, HPCDB_MARK_ROOM), HPCDB_SLOT);
+    expect("listed without a slot", lent.out[0], 0);
+    expect_table("no table", 0, none);
+    expect_mark("the mark before the roots", before_the_roots, 5);
+    expect("on from before the roots", go_on(before_the_roots, 5, 1, 5, HPCDB_MARK_ROOM + 1), HPCDB_CUT);
+    expect("the word of A", lent.listing[0], 216);
+    expect_mark("the mark of A", mark_of_a, 9);
+}
+
+/* n slots are 0, the others as they were; so is all else but the number listed. */
+static void expect_no_mark(const char *what, uint32_t code, uint32_t want, size_t n)
+{
+    expect(what, code, want);
+    expect(what, lent.out[0], 0);
+    for (size_t i = 0; i < sizeof lent.listing / 8; i++) {
+        expect(what, lent.listing[i], 0xa5a5a5a5a5a5a5a5);
+    }
+    for (size_t i = 0; i < sizeof lent.records / 8; i++) {
+        expect(what, lent.records[i], 0xa5a5a5a5a5a5a5a5);
+    }
+    expect_table(what, n, none);
+    expect_mark(what, before_the_roots, 0);
+}
+
+static void no_new_marks(void)
+{
+    static const uint8_t malformed[13] = {12, 0, 1, 0, 2};
+    uint8_t buffer[HPCDB_MARK_ROOM] = {13, 0, 1, 0, 2};
+    expect_no_mark("no such context", go_on(mark_of_none, 13, 4, 5, HPCDB_MARK_ROOM), HPCDB_MARK, 5);
+    expect_no_mark("no slot for B, and no such context", go_on(mark_of_none, 13, 4, 4, HPCDB_MARK_ROOM), HPCDB_SLOT, 4);
+    expect_no_mark("no slot for B, which is named", go_on(mark_of_b, 9, 4, 4, HPCDB_MARK_ROOM), HPCDB_SLOT, 4);
+    expect_no_mark("a length of 12", go_on(malformed, 13, 4, 5, HPCDB_MARK_ROOM), HPCDB_MARK, 0);
+    expect_no_mark("the whole buffer", go_on(buffer, sizeof buffer, 4, 5, HPCDB_MARK_ROOM), HPCDB_MARK, 0);
+    expect_no_mark("room of 804", go_on(mark_of_c, 13, 4, 5, HPCDB_MARK_ROOM - 1), HPCDB_ROOM, 0);
+    file[0] = 'h';
+    expect_no_mark("a magic before a mark", go_on(malformed, 13, 4, 5, HPCDB_MARK_ROOM), HPCDB_MAGIC, 0);
+    expect_no_mark("room before a magic", go_on(malformed, 13, 4, 5, HPCDB_MARK_ROOM - 1), HPCDB_ROOM, 0);
+    file[0] = 'H';
+    memset(&lent, 0xa5, sizeof lent);
+    uint32_t code = hpcdb_meta_walk_from(file, length, mark_of_c, 13, 0, lent.listing, 1, lent.table, 5, NULL, 0, NULL, 0, lent.out);
+    expect("no new mark asked for", code, HPCDB_CUT);
+    expect("the word of D", lent.listing[0], 288);
+    expect_table("the table up to D", 5, all_but_b);
+}
+
+/* Walks a file from mark to mark, so many contexts at a time, and once in one. */
+static void walk_in_parts(const char *path, size_t room)
+{
+    static uint64_t in_parts[1024], parts_table[1024], in_one[1024], one_table[1024];
+    uint8_t mark[HPCDB_MARK_ROOM], new_mark[HPCDB_MARK_ROOM] = {0};
+    size_t mark_length = 0, listed = 0;
+    uint64_t out[1];
+    uint32_t code;
+    load(path);
+    do {
+        code = hpcdb_meta_walk_from(file, length, mark, mark_length, 1, in_parts + listed, room, parts_table, 1024, NULL, 0, new_mark,
+                                    sizeof new_mark, out);
+        listed += out[0];
+        mark_length = new_mark[0] + 256 * new_mark[1];
+        memcpy(mark, new_mark, mark_length);
+    } while (code == HPCDB_CUT && listed + room <= 1024);
+    expect(path, code, hpcdb_meta_walk(file, length, in_one, 1024, one_table, 1024, out));
+    expect(path, listed, out[0]);
+    expect(path, memcmp(in_parts, in_one, 8 * listed), 0);
+    expect(path, memcmp(parts_table, one_table, sizeof one_table), 0);
+}
+
+static void walks_in_parts(void)
+{
+    for (size_t room = 1; room < 6; room++) {
+        walk_in_parts("crates/listing/stdin", room);
+        walk_in_parts("crates/walk_cases/data/deep-200-and-more-roots.db", room);
+        walk_in_parts("crates/walk_cases/data/deep-201.db", room);
+        walk_in_parts("crates/walk_cases/data/tree-14-cousin.db", room);
+    }
+    walk_in_parts("crates/walk_cases/data/roots-1024.db", 256);
+}
+
 static void names(void)
 {
     load("crates/meta_cases/data/sound.db");
@@ -215,6 +359,9 @@ static void nothing(void)
     load("crates/listing/stdin");
     expect("walk of W", hpcdb_meta_records(file, length, NULL, 0, NULL, 0, NULL, 0, out), HPCDB_SLOT);
     expect("listed", out[0], 0);
+    expect("walk on", hpcdb_meta_walk_from(NULL, 0, NULL, 0, 0, NULL, 0, NULL, 0, NULL, 0, NULL, 0, out), HPCDB_SHORT);
+    expect("walk on with a new mark", hpcdb_meta_walk_from(NULL, 0, NULL, 0, 1, NULL, 0, NULL, 0, NULL, 0, NULL, 0, out), HPCDB_ROOM);
+    expect("walk on in W", hpcdb_meta_walk_from(file, length, NULL, 0, 0, NULL, 0, NULL, 0, NULL, 0, NULL, 0, out), HPCDB_SLOT);
     load("crates/block_cases/data/p-b.db");
     expect("no pairs", hpcdb_profile_lookup_many(file, length, 1, NULL, 0, NULL, 0), HPCDB_OK);
 }
@@ -223,6 +370,10 @@ int main(void)
 {
     sections_of_w();
     walks_of_w();
+    marks_of_w();
+    marks_before_the_roots();
+    no_new_marks();
+    walks_in_parts();
     names();
     values();
     tuples_and_lines();

@@ -313,6 +313,64 @@ def walk(file, room, slots):
     return ("whole",), listed
 
 
+# ---- going on from a mark. A context's path has its number among its siblings, from 0, and before it that of each context above it
+MARK_ROOM = 805
+
+
+def mark_of(path):
+    return u(2, 5 + 4 * len(path)) + u(2, 1) + u(1, len(path)) + b"".join(u(4, n) for n in path)
+
+
+def path_of(mark):
+    """The path that a mark names; no bytes at all name none, as a mark of depth 0 does."""
+    if not mark:
+        return []
+    if len(mark) < 5 or not len(mark) == number(mark, 0, 2) == 5 + 4 * mark[4] or number(mark, 2, 2) != 1 or mark[4] > 200:
+        raise Refused(18)
+    return [number(mark, at, 4) for at in range(5, len(mark), 4)]
+
+
+def trail_with_paths(file, slots):
+    """The path and the record of each context of the trail, and the trail's end: ("whole",) or ("refused", number)"""
+    met, path = [], []
+    try:
+        for record in trail(file, slots):
+            level = record[1] - 1
+            path = path[:level] + [path[level] + 1 if level < len(path) else 0]
+            met.append((path, record))
+    except Refused as r:
+        return met, ("refused", r.args[0])
+    return met, ("whole",)
+
+
+def walk_from(file, mark, asks, listing, table, records, new_mark):
+    """The end, as walk has it, and the number listed. The lists of words and the bytearray new_mark are left as the walk leaves them."""
+    if asks and len(new_mark) < MARK_ROOM:
+        return ("refused", 17), 0
+    try:
+        sections_of(file)
+        given = path_of(mark)
+    except Refused as r:
+        return ("refused", r.args[0]), 0
+    met, end = trail_with_paths(file, len(table))
+    table[:] = [0] * len(table)
+    paths = [[]] + [path for path, _ in met]
+    if given not in paths:
+        return ("refused", 18) if end == ("whole",) else end, 0
+    passed = paths.index(given)
+    listed = min(len(met) - passed, len(listing))
+    for i, (_, record) in enumerate(met[:passed + listed]):
+        table[record[2]] = record[0]
+        if i >= passed:
+            listing[i - passed] = record[0]
+            own = slice((i - passed) * len(record), (i - passed + 1) * len(record))
+            records[own] = record if own.stop <= len(records) else records[own]
+    if asks:
+        new = mark_of(paths[passed + listed])
+        new_mark[:len(new)] = new
+    return ("cut",) if passed + listed < len(met) else end, listed
+
+
 # ---- sparse blocks. Of each file: the bytes of an index's id, as of the count of indices; the bytes of a value's id; the least value's id
 BLOCKS = {"profile": (4, 2, 0), "cct": (2, 4, 1)}
 

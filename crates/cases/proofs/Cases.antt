@@ -2,31 +2,17 @@
 use Prim.Native.Nat.{ℕ}
 use mathlib.Core.List.{List, [], _∷_}
 use mathlib.Core.Path.{_≡_, refl}
-use Rattle.le.specs.Number.{number}
-use Rattle.layout.specs.Bytes.{bytes, fields, join}
-use Rattle.layout.specs.Stands.{starts, stands}
-use Rattle.refusal.specs.Check.{either, rule, first, ifPassed}
-use Rattle.open.specs.Opening.{placeFor, pairAt, pairsFrom, pairs, sectionRule, strideRule, arrayRule, contextsRule, field, numberAt, strideRules, contentRule, headerRule, frontRules, inOrder, sectionCheck, headerCheck, openingWith, opening, onOpened}
-use Rattle.array.specs.Element.{elementAt, onElement, linkedBelow, linked}
-use Rattle.array.specs.Stored.{arrayOf}
-use Rattle.flex.specs.Packing.{bit, oneMore, present, before, words}
-use Rattle.context.specs.Context.{extent, flexAt, contextRule, linkRule, linksRule, childrenRule, targetsOf}
-use Rattle.context.specs.Entry.{entryAt}
-use Rattle.traversal.specs.Traversal.{ask, seen, slotCheck, visitCheck, enter, visit, bind, turn, siblings, level, fromRoots, traversal}
-use Rattle.traversal.specs.Walk.{truncate, walkOf, walkedOf, walkedWords}
+use Rattle.array.specs.Element.{elementAt, onElement}
 use Rattle.seq.specs.Sequence.{every, floor, rises, position}
 use Rattle.outside.specs.Outside.{apart, apartAll, lies}
 use Rattle.block.specs.Block.{blockAt, idAt, wordAt, rangeRule, startOf, endOf, partOf, partAt, orderRule, blockCheck, valueAt, inPart, indexOf, lookupIn, lookupWords}
 use Rattle.lookup.specs.Lookup.{checkedBlock, checkedAt, onChecked, profileBlock, profileLookup}
-use Rattle.cases.specs.W.{parts, w, built, magic, common}
-use Rattle.cases.specs.B.{f64, three, five, bParts, b}
-use Rattle.cases.specs.Flex.{flexParts, flexFile, aModule, aFile, aFunction}
+use Rattle.cases.specs.Walks.{walked}
+use Rattle.cases.specs.W.{parts, w, built}
+use Rattle.cases.specs.B.{three, five, b}
+use Rattle.cases.specs.Flex.{flexFile, aModule, aFile, aFunction}
 
--- a walk's answer in words: 0 whole, 101 cut, or the refusal's number; then the number listed
-abbrev walked : (file : List ℕ) (listing table : ℕ) → List ℕ
-walked file listing table = walkedWords (walkedOf (walkOf (ask file (record { words = listing; slots = table }))))
-
--- a lookup's: 0 found, 100 absent, or the refusal's number; then the bits
+-- a lookup's answer in words: 0 found, 100 absent, or the refusal's number; then the bits
 abbrev looked : (file : List ℕ) (context metric : ℕ) → List ℕ
 looked file context metric = lookupWords (profileLookup file 0 context metric)
 
@@ -65,5 +51,5 @@ pub cases : _≡_ {A = List (List ℕ)}
     ∷ (11 ∷ [])
     ∷ (11 ∷ [])
     ∷ [])
-unfolding parts w built join fields bytes magic common flexParts flexFile number starts stands rule first ifPassed placeFor pairAt pairsFrom pairs sectionRule strideRule arrayRule contextsRule field numberAt strideRules contentRule headerRule frontRules inOrder sectionCheck headerCheck openingWith opening onOpened linkedBelow linked arrayOf bit oneMore present before words extent flexAt contextRule linkRule linksRule childrenRule targetsOf entryAt seen slotCheck visitCheck enter visit bind turn siblings level fromRoots traversal either truncate walkOf walkedOf walkedWords f64 bParts b elementAt onElement every floor rises position blockAt idAt wordAt apart apartAll lies rangeRule startOf endOf partOf partAt orderRule blockCheck valueAt inPart indexOf lookupIn lookupWords checkedBlock checkedAt onChecked profileBlock profileLookup
+unfolding w walked flexFile b elementAt onElement every floor rises position blockAt idAt wordAt apart apartAll lies rangeRule startOf endOf partOf partAt orderRule blockCheck valueAt inPart indexOf lookupIn lookupWords checkedBlock checkedAt onChecked profileBlock profileLookup
 cases = refl

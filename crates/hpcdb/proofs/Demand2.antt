@@ -15,7 +15,8 @@ use Rattle.refusal.specs.Check.{either}
 use Rattle.refusal.specs.Words.{codeIn}
 use Rattle.layout.specs.Bytes.{bytes}
 use Rattle.layout.proofs.Laws.{length-bytes}
-use Rattle.layout.proofs.Words.{Octets, bytes-number}
+use Rattle.layout.specs.Octets.{Octets}
+use Rattle.layout.proofs.Words.{bytes-number}
 use Rattle.buffer.proofs.Laws.{over-eq}
 use Rattle.refusal.proofs.Numbers.{positive, small}
 use Rattle.open.specs.Format as Format

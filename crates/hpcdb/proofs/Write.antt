@@ -11,7 +11,7 @@ use Rattle.refusal.specs.declared.Refusal.the-variants as No
 use Rattle.refusal.specs.Number.{numberOf}
 use Rattle.refusal.specs.Words.{codeIn}
 use Rattle.refusal.proofs.Numbers.{positive, same-number}
-use Rattle.layout.proofs.Words.{Octets}
+use Rattle.layout.specs.Octets.{Octets}
 use Rattle.profile_file.specs.Survey.{Ascending}
 use Rattle.profile_file.specs.File.{profileFile}
 use Rattle.profile_file.specs.Facts.{CountsFit}

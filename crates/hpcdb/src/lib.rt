@@ -2,7 +2,9 @@
 // written where the number is not 0, but for the number of contexts that a walk listed.
 ghost use mathlib.Core.List.{[], _∷_};
 ghost use mathlib.Core.Path.{_≡_};
+ghost use mathlib.Core.Bool.{not};
 ghost use Prim.Native.Nat.{_≤_};
+ghost use lib.Dec.{eqb};
 ghost use lib.ListN.{length};
 ghost use Rattle.refusal.specs.Check.{codeOf};
 ghost use Rattle.refusal.specs.Words.{codeIn};
@@ -11,7 +13,7 @@ ghost use Rattle.text.specs.String.{textWords};
 ghost use Rattle.meta.specs.Names.{titleAt, descriptionAt, kindAt, moduleAt, sourceAt, sourceWords};
 ghost use Rattle.metric.specs.Levels.{metricAt, scopeAt, summaryAt, metricWords, scopeWords, summaryWords};
 ghost use Rattle.function.specs.Function.{functionAt, functionWords};
-ghost use Rattle.traversal.specs.Walk.{walkedWords, slices, Leaves};
+ghost use Rattle.traversal.specs.Walk.{walkedWords, slices, slicesWithMark, marksWith, LeavesFrom, Leaves};
 ghost use Rattle.count.specs.Count.{countOf, countWords};
 ghost use Rattle.tuple.specs.Tuple.{tupleAt, identifierAt, tupleWords, identifierWords};
 ghost use Rattle.trace.specs.Trace.{lineAt, sampleAt, lastAt, lineWords, sampleWords, lastWords};
@@ -176,7 +178,7 @@ pub extern "C" fn hpcdb_meta_walk(
     ensures { λ r. ⌜ Leaves walkedWords (now (file .entry)) (slices (now (listing .entry)) (now (table .entry)) [])
         (r ∷ now (out .exit)) (slices (now (listing .exit)) (now (table .exit)) []) ⌝ }
 {
-    words::put_walked(walk::walk(file, listing, table), out)
+    words::put_walked(resume::walk(file, listing, table), out)
 }
 
 // The same walk, with the records of the listed contexts.
@@ -191,7 +193,29 @@ pub extern "C" fn hpcdb_meta_records(
     ensures { λ r. ⌜ Leaves walkedWords (now (file .entry)) (slices (now (listing .entry)) (now (table .entry)) (now (records .entry)))
         (r ∷ now (out .exit)) (slices (now (listing .exit)) (now (table .exit)) (now (records .exit))) ⌝ }
 {
-    words::put_walked(walk::records(file, listing, table, records), out)
+    words::put_walked(resume::records(file, listing, table, records), out)
+}
+
+// The same walk from a mark on, with a new mark where `asks` is not 0.
+#[no_mangle]
+pub extern "C" fn hpcdb_meta_walk_from(
+    file: &[u8],
+    mark: &[u8],
+    asks: u64,
+    listing: &mut [u64],
+    table: &mut [u64],
+    records: &mut [u64],
+    new_mark: &mut [u8],
+    out: &mut [u64; 1],
+) -> u32
+    ensures { λ r. ⌜ LeavesFrom walkedWords (now (file .entry)) (marksWith (now (mark .entry)) (not (eqb asks 0)))
+        (slicesWithMark (now (listing .entry)) (now (table .entry)) (now (records .entry)) (now («new_mark» .entry)))
+        (r ∷ now (out .exit)) (slicesWithMark (now (listing .exit)) (now (table .exit)) (now (records .exit)) (now («new_mark» .exit))) ⌝ }
+{
+    words::put_walked(
+        resume::walk_from(file, mark, asks != 0, listing, table, records, new_mark),
+        out,
+    )
 }
 
 // ---- profile.db, cct.db and trace.db

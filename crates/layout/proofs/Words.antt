@@ -13,11 +13,9 @@ use Rattle.le.specs.Number.{number}
 use Rattle.le.proofs.Laws.{step, number-small}
 use Rattle.layout.specs.Bytes.{bytes}
 use Rattle.layout.specs.Stands.{starts, stands}
+use Rattle.layout.specs.Octets.{Octets}
 use Rattle.layout.proofs.Laws.{length-bytes, read}
 use Rattle.layout.proofs.Prefix.{stands-iff}
-
-abbrev pub Octets : List ℕ → Type 0
-Octets s = (i : ℕ) → getD s i 0 < 256
 
 -- the bytes of the number that stands at a place are those that stand there
 pub bytes-number : (s : List ℕ) → Octets s → (w at : ℕ) → at + w ≤ length s → bytes w (number w s at) ≡ take w (drop at s)

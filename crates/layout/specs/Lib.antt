@@ -1,3 +1,4 @@
 pub mod Bytes
 pub mod Many
 pub mod Stands
+pub mod Octets

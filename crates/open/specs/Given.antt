@@ -66,3 +66,4 @@ module _ (f : Format) (file : List ℕ) where
   Given No.Index = ⊥
   Given No.NotFinite = ⊥
   Given No.Room = ⊥
+  Given No.Mark = ⊥

@@ -18,7 +18,7 @@ use Rattle.refusal.specs.declared.Check.the-variants as Check
 use Rattle.refusal.specs.Number.{numberOf}
 use Rattle.refusal.specs.Check.{ifPassed}
 use Rattle.refusal.proofs.Checks.{Decides, ifPassed-answers, ifPassed-refuses}
-use Rattle.layout.proofs.Words.{Octets}
+use Rattle.layout.specs.Octets.{Octets}
 use Rattle.buffer.specs.Over.{over}
 use Rattle.buffer.proofs.Laws.{over-eq}
 use Rattle.seq.specs.Sequence.{sum}

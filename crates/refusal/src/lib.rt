@@ -21,6 +21,7 @@ pub enum Refusal {
     Index,
     NotFinite,
     Room,
+    Mark,
 }
 
 // The number of a refusal: the only function that goes by its cases.
@@ -45,6 +46,7 @@ pub fn number(r: Refusal) -> u64
         Refusal::Index => 15,
         Refusal::NotFinite => 16,
         Refusal::Room => 17,
+        Refusal::Mark => 18,
     }
 }
 

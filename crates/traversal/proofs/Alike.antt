@@ -1,5 +1,5 @@
--- Two traversals of the same contexts side by side, with other room: what relates their outcomes where nothing is left to traverse, and
--- is kept by what follows and by a visit, relates them in the end. P: of the contexts so far.
+-- Two traversals of the same contexts side by side, with other marks and other room: what relates their outcomes where nothing is left to
+-- traverse, and is kept by what follows and by a visit, relates them in the end. P: of the contexts so far.
 use Prim.Native.Nat.{ℕ, zero, suc, _+_, _-_}
 use mathlib.Core.Bool.{Bool, true, false}
 use mathlib.Core.List.{List, [], _∷_, _++_}
@@ -7,19 +7,19 @@ use lib.Dec.{ltb}
 use Rattle.open.specs.Opening.{field}
 use Rattle.context.specs.Context.{Targets, childrenPlace, childrenBytes, extent}
 use Rattle.context.specs.Entry.{Entry, entryAt}
-use Rattle.traversal.specs.Traversal.{Lengths, ask, Outcome, on, Parameters, parameters, visitCheck, enter, visit, bind, turn, siblings, level}
+use Rattle.traversal.specs.Traversal.{Lengths, Marks, ask, Outcome, on, Parameters, parameters, visitCheck, enter, visit, bind, turn, siblings, level}
 use Rattle.traversal.proofs.Grows.{Grows, grows-siblings, grows-level}
 
 -- room for one more, whatever there is
 abbrev pub always : List Entry → Bool
 always l = true
 
-module _ (file : List ℕ) (t : Targets) (n n' : Lengths) (free free' : List Entry → Bool) where
+module _ (file : List ℕ) (m m' : Marks) (t : Targets) (n n' : Lengths) (free free' : List Entry → Bool) where
   abbrev pub left : Parameters
-  left = parameters (ask file n) t free
+  left = parameters (ask file m n) t free
 
   abbrev pub right : Parameters
-  right = parameters (ask file n') t free'
+  right = parameters (ask file m' n') t free'
 
   pub record Alike (P : List Entry → Type 0) (R : Outcome → Outcome → Type 0) : Type 0 where
     pub stay : (l : List Entry) → P l → R (on l) (on l)

@@ -4,7 +4,7 @@ use mathlib.Core.List.{List, [], _∷_, _++_, append-assoc, append-nil}
 use mathlib.Core.Path.{_≡_, refl, sym, ap, _∙_}
 use native.Mathlib.Omega.{arith}
 use lib.ListN.{length, take, drop, length-append, take-append-drop}
-use lib.Seq.{take-append-le, take-append-add}
+use lib.Seq.{take-at, take-append-le, take-append-add}
 use Rattle.traversal.specs.Demand3.{Begins}
 
 module _ {A : Type 0} where
@@ -22,6 +22,11 @@ module _ {A : Type 0} where
 
   pub begins-take : (n : ℕ) (l : List A) → Begins (take n l) l
   begins-take n l = (drop n l, sym (take-append-drop n l))
+
+  -- what is taken is as many as it has
+  pub take-own : (n : ℕ) (l : List A) → take (length (take n l)) l ≡ take n l
+  take-own n l =
+      ap (take (length (take n l))) (sym (take-append-drop n l)) ∙ take-at (take n l) (drop n l) (length (take n l)) refl
 
   -- what is too long is cut alike, whatever follows
   pub take-begins : (n : ℕ) (a b : List A) → Begins a b → n ≤ length a → take n b ≡ take n a

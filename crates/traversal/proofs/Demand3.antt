@@ -1,64 +1,79 @@
--- Demand 3. A walk is the trail truncated to the listing's words; with more room the trail only goes on.
-use Prim.Native.Nat.{ℕ, zero, suc, _+_, _≤_, _<_}
-use mathlib.Core.Bool.{Bool, true, false, true≢false}
-use mathlib.Core.List.{List, [], _∷_, _++_, map, map-append, append-assoc}
-use mathlib.Core.Logic.{inl, inr}
+-- Demand 3. A walk is the trail from just after its mark, truncated to the listing's words; with more room that trail only goes on.
+use Prim.Native.Nat.{ℕ, _+_, _≤_, _<_}
+use mathlib.Core.Bool.{Bool, true, false, and-false, true≢false}
+use mathlib.Core.List.{List, [], _++_, map, map-append}
 use mathlib.Core.Path.{_≡_, refl, sym, ap, _∙_, subst}
 use native.Mathlib.Nat.{min-comm}
 use native.Mathlib.Omega.{arith}
 use borrow.Author.Tests.{leb-true, leb-false}
 use lib.Dec.{leb}
-use lib.ListN.{length, getD, take, drop, replicate, length-take, length-map, take-append-drop}
-use lib.Seq.{take-at, drop-at}
-use Rattle.seq.specs.Lists.{All, Differs, Distinct, Below}
-use Rattle.seq.proofs.Lists.{all-left}
+use lib.ListN.{length, take, drop, length-take, length-map}
+use lib.Seq.{take-at, drop-at, take-nil}
 use Rattle.refusal.specs.declared.Refusal.{Refusal}
 use Rattle.refusal.specs.declared.Check.{Check}
 use Rattle.refusal.specs.declared.Check.the-variants as Check
-use Rattle.refusal.specs.Check.{ifPassed}
+use Rattle.refusal.specs.Check.{either, ifPassed}
 use Rattle.buffer.proofs.Laws.{over-none, over-eq}
-use Rattle.open.specs.Format.{meta}
-use Rattle.open.specs.Opening.{opening, onOpened}
 use Rattle.context.specs.Entry.{Entry}
 use Rattle.traversal.specs.declared.Walked.{Walked}
 use Rattle.traversal.specs.declared.Walked.the-variants.{Complete, Truncated, Refused}
-use Rattle.traversal.specs.Traversal.{Lengths, Asked, ask, Outcome, on, cut, refused, listOf, traversal}
-use Rattle.traversal.specs.Walk.{truncate, walkOf, walkedOf, numberListed, placeOf, listingWith, tableWith, tableAfter, Slices, askWith, Leaves, itself}
-use Rattle.traversal.specs.Demand3.{Call, listedNumber, listedWords, trail, listed, In, OneWalk, WantsRoom, Final, Begins, TwoWalks, Demand3}
-use Rattle.traversal.proofs.Begins.{begins-trans, begins-take, begins-cut}
+use Rattle.traversal.specs.Traversal.{Marks, Asked, ask, Outcome, on, cut, refused, listOf, traversal}
+use Rattle.traversal.specs.From.{isPassed, afterMark, upToMark, withList, unpassed, fromMark}
+use Rattle.traversal.specs.Walk.{walkCheck, givenPath, trailFrom, walkOf, markPassed, reached, walkedOf, numberListed, placeOf, listingWith, tableWith, wordsOf, recordsWith, tableAfter, markAfter, Slices, askWith, LeavesFrom, itself}
+use Rattle.traversal.specs.Demand3.{Call, asked, listedNumber, listedWords, trail, listed, Untouched, OneWalk, Final, Begins, TwoWalks, AskedAlike, Demand3}
+use Rattle.traversal.proofs.Begins.{take-own}
 use Rattle.traversal.proofs.Cut.{truncate-short, truncate-long, list-truncate}
 use Rattle.traversal.proofs.Grows.{isCut, never-cut}
-use Rattle.traversal.proofs.Trail.{trail-same}
-use Rattle.traversal.proofs.Wider.{Wider, wider-traversal, wider-begins}
-use Rattle.traversal.proofs.Table.{idOf, length-table, slot-stays, later-differ, slot-holds}
-use Rattle.traversal.proofs.Ids.{traversal-ids}
+use Rattle.traversal.proofs.Trail.{trail-from-same}
+use Rattle.traversal.proofs.MoreRoom.{entries-begin, entries-same}
+use Rattle.traversal.proofs.Table.{length-table}
+use Rattle.traversal.proofs.Join.{reached-passed, reached-unpassed}
+use Rattle.traversal.proofs.Rules.{mark-passed, passed-check}
+use Rattle.traversal.proofs.Filled.{reached-slot, empty-slot}
 
 -- ---- what is asked
 
-pub number-of : (o : Outcome) → numberListed (walkedOf o) ≡ length (listOf o)
+number-of : (o : Outcome) → numberListed (walkedOf o) ≡ length (listOf o)
 unfolding walkedOf
 number-of (on l) = refl
 number-of (cut l) = refl
 number-of (refused r l) = refl
 
--- a walk lists the first of the traversal's contexts, no more than it has room for
-pub lists-first : (a : Asked) → listOf (walkOf a) ≡ take (a .lent .words) (listOf (traversal a))
+-- a walk lists the first of the trail's contexts, no more than it has room for
+lists-first : (a : Asked) → listOf (walkOf a) ≡ take (a .lent .words) (listOf (trailFrom a))
 unfolding walkOf
-lists-first a = list-truncate (a .lent .words) (traversal a)
+lists-first a = list-truncate (a .lent .words) (trailFrom a)
 
-pub fits-room : (a : Asked) → length (listOf (walkOf a)) ≤ a .lent .words
-fits-room a = omega (arith, ap length (lists-first a), length-take (a .lent .words) (listOf (traversal a)))
+fits-room : (a : Asked) → length (listOf (walkOf a)) ≤ a .lent .words
+fits-room a = omega (arith, ap length (lists-first a), length-take (a .lent .words) (listOf (trailFrom a)))
 
--- with room for all, a walk is the traversal
-pub all-listed : (a : Asked) → length (listOf (traversal a)) ≤ a .lent .words → walkOf a ≡ traversal a
+-- with room for all, a walk is the trail
+all-listed : (a : Asked) → length (listOf (trailFrom a)) ≤ a .lent .words → walkOf a ≡ trailFrom a
 unfolding walkOf
-all-listed a h = truncate-short (a .lent .words) (traversal a) h
+all-listed a h = truncate-short (a .lent .words) (trailFrom a) h
+
+-- a trail is never cut
+cut-from : (path : List ℕ) (o : Outcome) → isCut (fromMark path o) ≡ isCut o
+unfolding fromMark either
+cut-from path o = go (isPassed path (listOf o)) o (afterMark path (listOf o))
+  where
+    go : (b : Bool) (o : Outcome) (m : List Entry) → isCut (either b (withList o m) (unpassed o)) ≡ isCut o
+    go true (on l) m = refl
+    go true (cut l) m = refl
+    go true (refused r l) m = refl
+    go false (on l) m = refl
+    go false (cut l) m = refl
+    go false (refused r l) m = refl
+
+never-trail-cut : (a : Asked) → isCut (trailFrom a) ≡ false
+unfolding trailFrom ifPassed
+never-trail-cut a = go (walkCheck a)
+  where
+    go : (v : Check) → isCut (ifPassed (λ r. refused r []) v (fromMark (givenPath a) (traversal a))) ≡ false
+    go Check.Passed = cut-from (givenPath a) (traversal a) ∙ never-cut a
+    go (Check.Refused r) = refl
 
 -- ---- one walk
-
-take-listed : {A : Type 0} (n : ℕ) (l : List A) → take (length (take n l)) l ≡ take n l
-take-listed n l =
-    ap (take (length (take n l))) (sym (take-append-drop n l)) ∙ take-at (take n l) (drop n l) (length (take n l)) refl
 
 abbrev saysCut : Walked → Bool
 saysCut (Complete n) = false
@@ -75,24 +90,19 @@ walked-cut : (l : List Entry) → walkedOf (cut l) ≡ Truncated (length l)
 unfolding walkedOf
 walked-cut l = refl
 
-zeros : (n i : ℕ) → _≡_ {A = ℕ} (getD (replicate n 0) i 0) 0
-zeros zero i = refl
-zeros (suc n) zero = refl
-zeros (suc n) (suc i) = zeros n i
-
 module _ {file : List ℕ} (c : Call file) where
   abbrev a : Asked
-  a = askWith file (c .was)
+  a = asked c
 
   abbrev room : ℕ
   room = length (c .was .listing)
 
-  counted : listedNumber c ≡ length (listOf (walkOf a))
+  pub counted : listedNumber c ≡ length (listOf (walkOf (asked c)))
   counted = ap numberListed (c .promised .answers) ∙ number-of (walkOf a)
 
-  same-listed : listOf (walkOf a) ≡ listed c
+  pub same-listed : listOf (walkOf (asked c)) ≡ listed c
   same-listed =
-      lists-first a ∙ sym (take-listed room (trail c)) ∙ ap (λ (n : ℕ). take n (trail c)) (sym (counted ∙ ap length (lists-first a)))
+      lists-first a ∙ sym (take-own room (trail c)) ∙ ap (λ (n : ℕ). take n (trail c)) (sym (counted ∙ ap length (lists-first a)))
 
   abbrev places : List ℕ
   places = map placeOf (listOf (walkOf a))
@@ -116,81 +126,61 @@ module _ {file : List ℕ} (c : Call file) where
       ap (drop (listedNumber c)) written ∙ drop-at places (drop (length places) (c .was .listing)) (listedNumber c) many
       ∙ ap (λ (n : ℕ). drop n (c .was .listing)) many
 
-  short-end : length (trail c) ≤ room → c .answer ≡ walkedOf (traversal a)
+  short-end : length (trail c) ≤ room → c .answer ≡ walkedOf (trailFrom a)
   short-end h = c .promised .answers ∙ ap walkedOf (all-listed a h)
 
   cut-says : room < length (trail c) → c .answer ≡ Truncated (listedNumber c)
   unfolding walkOf
   cut-says h =
-      let long : walkOf a ≡ cut (take room (trail c)) = truncate-long room (traversal a) h in
-      c .promised .answers ∙ ap walkedOf long ∙ walked-cut (take room (trail c)) ∙ ap Truncated (sym (counted ∙ ap (λ (o : Outcome). length (listOf o)) long))
+      let long : walkOf a ≡ cut (take room (trail c)) = truncate-long room (trailFrom a) h in
+      c .promised .answers ∙ ap walkedOf long ∙ walked-cut (take room (trail c))
+      ∙ ap Truncated (sym (counted ∙ ap (λ (o : Outcome). length (listOf o)) long))
 
   says-long : c .answer ≡ Truncated (listedNumber c) → room < length (trail c)
   says-long e = go (leb (length (trail c)) room) refl
     where
       go : (b : Bool) → leb (length (trail c)) room ≡ b → room < length (trail c)
       go true h =
-          let whole : c .answer ≡ walkedOf (traversal a) = short-end (leb-true (length (trail c)) room h) in
-          absurd (true≢false (sym (ap saysCut e) ∙ ap saysCut whole ∙ says-cut (traversal a) ∙ never-cut a))
+          let whole : c .answer ≡ walkedOf (trailFrom a) = short-end (leb-true (length (trail c)) room h) in
+          absurd (true≢false (sym (ap saysCut e) ∙ ap saysCut whole ∙ says-cut (trailFrom a) ∙ never-trail-cut a))
       go false h = leb-false (length (trail c)) room h
 
   -- ---- its table
 
-  filled : opening meta file ≡ Check.Passed → c .now .table ≡ tableWith (listed c) (length (c .was .table))
-  unfolding tableAfter onOpened ifPassed
-  filled h = c .promised .fills ∙ rw h (ap (λ (l : List Entry). tableWith l (length (c .was .table))) same-listed)
-
-  module _ (e : Entry) (h : In e (listed c)) where
-    -- the context on the trail, with all after it
-    on-trail : trail c ≡ h .0 ++ (e ∷ (h .1 ++ drop (listedNumber c) (trail c)))
-    on-trail =
-        sym (take-append-drop (listedNumber c) (trail c)) ∙ ap (λ (l : List Entry). l ++ drop (listedNumber c) (trail c)) (h .2)
-        ∙ append-assoc (h .0) (e ∷ h .1) (drop (listedNumber c) (trail c))
-
-    apart : All (Differs (e .ctxId)) (map idOf (h .1))
-    apart =
-        let later = later-differ (h .0) (h .1 ++ drop (listedNumber c) (trail c)) e
-        (subst (λ (l : List Entry). Distinct (map idOf l)) on-trail (traversal-ids a .distinct)) in
-        all-left (Differs (e .ctxId)) (map idOf (h .1)) (map idOf (drop (listedNumber c) (trail c)))
-        (subst (All (Differs (e .ctxId))) (map-append idOf (h .1) (drop (listedNumber c) (trail c))) later)
-
-    inside : e .ctxId < length (c .was .table)
-    inside = has (h .0) _ (subst (λ (l : List Entry). Below (length (c .was .table)) (map idOf l)) on-trail (traversal-ids a .below))
-      where
-        has : (x y : List Entry) → Below (length (c .was .table)) (map idOf (x ++ (e ∷ y))) → e .ctxId < length (c .was .table)
-        has [] y k = k .0
-        has (z ∷ x) y k = has x y (k .1)
-
-    slot-of : opening meta file ≡ Check.Passed → getD (c .now .table) (e .ctxId) 0 ≡ e .place
-    slot-of p = rw (filled p, h .2) (slot-holds (h .0) (h .1) e (length (c .was .table)) inside apart)
-
-  none-of : (i : ℕ) (l : List Entry) → ((e : Entry) → In e l → e .ctxId ≡ i → ⊥) → All (Differs i) (map idOf l)
-  none-of i [] f = tt
-  none-of i (x ∷ l) f = ((λ k. f x ([], l, refl) (sym k)), none-of i l (λ e h. f e (x ∷ h .0, h .1, ap (λ (m : List Entry). x ∷ m) (h .2))))
-
-  empty-slot : (i : ℕ) → opening meta file ≡ Check.Passed → ((e : Entry) → In e (listed c) → e .ctxId ≡ i → ⊥) → getD (c .now .table) i 0 ≡ 0
-  unfolding tableWith
-  empty-slot i p f =
-      rw (filled p)
-      (slot-stays (listed c) (replicate (length (c .was .table)) 0) i (none-of i (listed c) f) ∙ zeros (length (c .was .table)) i)
+  pub filled : walkCheck (asked c) ≡ Check.Passed → c .now .table ≡ tableWith (reached (asked c)) (length (c .was .table))
+  unfolding tableAfter ifPassed
+  filled h = c .promised .fills ∙ rw h
 
   same-slots : length (c .now .table) ≡ length (c .was .table)
-  unfolding tableAfter onOpened ifPassed
-  same-slots = ap length (c .promised .fills) ∙ go (opening meta file)
+  unfolding tableAfter ifPassed
+  same-slots = ap length (c .promised .fills) ∙ go (walkCheck a)
     where
-      go : (v : Check) → length (ifPassed (λ r. c .was .table) v (tableWith (listOf (walkOf a)) (length (c .was .table)))) ≡ length (c .was .table)
-      go Check.Passed = length-table (listOf (walkOf a)) (length (c .was .table))
+      go : (v : Check) → length (ifPassed (λ r. c .was .table) v (tableWith (reached a) (length (c .was .table)))) ≡ length (c .was .table)
+      go Check.Passed = length-table (reached a) (length (c .was .table))
       go (Check.Refused r) = refl
 
-  nothing-changed : (r : Refusal) → opening meta file ≡ Check.Refused r
-      → (c .answer ≡ Refused r 0) × (c .now .listing ≡ c .was .listing) × (c .now .table ≡ c .was .table)
-  unfolding walkOf traversal tableAfter onOpened ifPassed walkedOf listingWith
+  -- ---- refused before the trail
+
+  nothing-changed : (r : Refusal) → walkCheck a ≡ Check.Refused r → Untouched c r
+  unfolding walkOf trailFrom tableAfter ifPassed walkedOf listingWith recordsWith wordsOf markAfter markPassed either
   nothing-changed r e =
       let none : walkOf a ≡ refused r [] = rw e (truncate-short room (refused r []) (omega arith)) in (
         c .promised .answers ∙ ap walkedOf none,
         c .promised .lists ∙ rw none (over-none (c .was .listing) 0),
         c .promised .fills ∙ rw e,
+        c .promised .recorded ∙ rw (none, take-nil) (over-none (c .was .records) 0),
+        c .promised .marked ∙ rw (e, and-false),
       )
+
+  -- ---- the contexts reached
+
+  those-reached : markPassed a ≡ true → reached a ≡ upToMark (givenPath a) (listOf (traversal a)) ++ listed c
+  those-reached h =
+      let p = passed-check a h in
+      reached-passed a (p .0) (p .1) ∙ ap (λ (l : List Entry). upToMark (givenPath a) (listOf (traversal a)) ++ l) same-listed
+
+  none-reached : walkCheck a ≡ Check.Passed → markPassed a ≡ false → reached a ≡ []
+  none-reached e h = reached-unpassed a e (sym (mark-passed a e) ∙ h)
 
   of-one : OneWalk c
   of-one = record {
@@ -199,100 +189,79 @@ module _ {file : List ℕ} (c : Call file) where
     beyond = untouched;
     says-cut = (says-long, cut-says);
     gives-end = short-end;
-    slot = λ p e h. slot-of e h p;
-    no-slot = λ p i f. empty-slot i p f;
+    slot = λ p e h. rw (filled p) (reached-slot a e h);
+    no-slot = λ p i f. rw (filled p) (empty-slot (length (c .was .table)) (reached a) i f);
     slots = same-slots;
-    not-opened = nothing-changed;
+    up-to = those-reached;
+    none = none-reached;
+    not-begun = nothing-changed;
   }
 
--- ---- two outcomes, and two walks
-
-pub final-cut : (l : List Entry) → Final (walkedOf (cut l)) → ⊥
-unfolding walkedOf
-final-cut l h = h
-
-pub final-refused : (r : Refusal) (l : List Entry) → WantsRoom r → Final (walkedOf (refused r l)) → ⊥
-unfolding walkedOf
-final-refused r l w h = h w
-
-module _ (n n' : ℕ) (o o' : Outcome) (le : n ≤ n') (w : Wider o o') where
-  pub more-begins : Begins (listOf (truncate n o)) (listOf (truncate n' o'))
-  more-begins = rw (list-truncate n o, list-truncate n' o')
-      (begins-cut n' (take n (listOf o)) (listOf o')
-      (begins-trans (take n (listOf o)) (listOf o) (listOf o') (begins-take n (listOf o)) (wider-begins o o' w))
-      (omega (arith, length-take n (listOf o))))
-
-  stays : length (listOf o) ≤ n → Wider o o' → Final (walkedOf o) → truncate n' o' ≡ o
-  stays k (inl e) f = truncate-short n' o' (omega (arith, ap (λ (x : Outcome). length (listOf x)) e)) ∙ sym e
-  stays k (inr v) f = absurd (final-refused (v .0) (v .1) (v .2) (subst (λ (x : Outcome). Final (walkedOf x)) (v .3) f))
-
-  pub more-same : Final (walkedOf (truncate n o)) → truncate n' o' ≡ truncate n o
-  more-same = go (leb (length (listOf o)) n) refl
-    where
-      go : (b : Bool) → leb (length (listOf o)) n ≡ b → Final (walkedOf (truncate n o)) → truncate n' o' ≡ truncate n o
-      go true e = rw (truncate-short n o (leb-true (length (listOf o)) n e)) (stays (leb-true (length (listOf o)) n e) w)
-      go false e = rw (truncate-long n o (leb-false (length (listOf o)) n e)) (λ f. absurd (final-cut (take n (listOf o)) f))
-
--- over entries with all their fields, and so over every record that is handed out
-module _ (file : List ℕ) (n n' : Lengths) (h : n .words ≤ n' .words) (k : n .slots ≤ n' .slots) where
-  abbrev less : Asked
-  less = ask file n
-
-  abbrev more : Asked
-  more = ask file n'
-
-  pub entries-begin : Begins (listOf (walkOf less)) (listOf (walkOf more))
-  unfolding walkOf
-  entries-begin = more-begins (n .words) (n' .words) (traversal less) (traversal more) h (wider-traversal file n n' k)
-
-  pub entries-same : Final (walkedOf (walkOf less)) → walkOf more ≡ walkOf less
-  unfolding walkOf
-  entries-same = more-same (n .words) (n' .words) (traversal less) (traversal more) h (wider-traversal file n n' k)
+-- ---- two walks
 
 begins-map : (f : Entry → ℕ) (x y : List Entry) → Begins x y → Begins (map f x) (map f y)
 begins-map f x y h = (map f (h .0), ap (map f) (h .1) ∙ map-append f x (h .0))
 
-module _ {file : List ℕ} (old new : Call file) (h : length (old .was .listing) ≤ length (new .was .listing))
+module _ {file : List ℕ} (old new : Call file) (alike : AskedAlike old new) (h : length (old .was .listing) ≤ length (new .was .listing))
     (k : length (old .was .table) ≤ length (new .was .table)) where
-  same : Final (old .answer) → walkOf (a new) ≡ walkOf (a old)
-  same f = entries-same file (a old .lent) (a new .lent) h k (subst Final (old .promised .answers) f)
+  -- the new one's lengths with the old one's marks
+  abbrev wider : Asked
+  wider = ask file (old .marks) (asked new .lent)
 
-  places-of : (c : Call file) → listedWords c ≡ map placeOf (listOf (walkOf (a c)))
+  same-asked : walkOf wider ≡ walkOf (asked new)
+  same-asked = ap (λ (m : Marks). walkOf (ask file m (asked new .lent))) (alike .same-marks)
+
+  begin : Begins (listOf (walkOf (asked old))) (listOf (walkOf (asked new)))
+  begin = subst (λ (o : Outcome). Begins (listOf (walkOf (asked old))) (listOf o)) same-asked
+      (entries-begin file (old .marks) (asked old .lent) (asked new .lent) (alike .same-room) h k)
+
+  same : Final (old .answer) → walkOf (asked new) ≡ walkOf (asked old)
+  same f = sym same-asked
+      ∙ entries-same file (old .marks) (asked old .lent) (asked new .lent) (alike .same-room) h k (subst Final (old .promised .answers) f)
+
+  places-of : (c : Call file) → listedWords c ≡ map placeOf (listOf (walkOf (asked c)))
   places-of c = listed-places c ∙ ap (map placeOf) (sym (same-listed c))
 
   of-two : TwoWalks old new
   of-two = record {
-    begins = rw (places-of old, places-of new)
-        (begins-map placeOf (listOf (walkOf (a old))) (listOf (walkOf (a new))) (entries-begin file (a old .lent) (a new .lent) h k));
+    begins = rw (places-of old, places-of new) (begins-map placeOf (listOf (walkOf (asked old))) (listOf (walkOf (asked new))) begin);
     same-list = λ f. places-of new ∙ ap (λ (o : Outcome). map placeOf (listOf o)) (same f) ∙ sym (places-of old);
     same-end = λ f. new .promised .answers ∙ ap walkedOf (same f) ∙ sym (old .promised .answers);
   }
 
+one-trail-of : {file : List ℕ} (c d : Call file) → AskedAlike c d → length (c .was .table) ≡ length (d .was .table)
+    → trailFrom (asked c) ≡ trailFrom (asked d)
+one-trail-of {file = file} c d alike e =
+    trail-from-same file (c .marks) (asked c .lent) (asked d .lent) (alike .same-room) e
+    ∙ ap (λ (m : Marks). trailFrom (ask file m (asked d .lent))) (alike .same-marks)
+
 pub demand3 : Demand3
 demand3 = record {
-  one-trail = λ file c d e. trail-same file (a c .lent) (a d .lent) e;
+  one-trail = λ file c d alike e. one-trail-of c d alike e;
   one = λ file c. of-one c;
-  two = λ file old new h k. of-two old new h k;
+  two = λ file old new alike h k. of-two old new alike h k;
 }
 
 -- ---- answers put otherwise, as in words
 
-pub said-as : {A : Type 0} {say : Walked → A} {file : List ℕ} {was now : Slices} {w : Walked} {answer : A} → Leaves itself file was w now
-    → answer ≡ say w → Leaves say file was answer now
-said-as {say = say} l e = record { answers = e ∙ ap say (l .answers); lists = l .lists; fills = l .fills; recorded = l .recorded }
+pub said-as : {A : Type 0} {say : Walked → A} {file : List ℕ} {m : Marks} {was now : Slices} {w : Walked} {answer : A}
+    → LeavesFrom itself file m was w now → answer ≡ say w → LeavesFrom say file m was answer now
+said-as {say = say} l e = record { answers = e ∙ ap say (l .answers); lists = l .lists; fills = l .fills; recorded = l .recorded; marked = l .marked }
 
 -- such a walk is a call too
-
-pub call-in-words : {A : Type 0} (say : Walked → A) (file : List ℕ) (was : Slices) (answer : A) (now : Slices) → Leaves say file was answer now
-    → (c : Call file) × (answer ≡ say (c .answer)) × (c .was ≡ was) × (c .now ≡ now)
-call-in-words say file was answer now l = (
+pub call-in-words : {A : Type 0} (say : Walked → A) (file : List ℕ) (m : Marks) (was : Slices) (answer : A) (now : Slices)
+    → LeavesFrom say file m was answer now
+    → (c : Call file) × (answer ≡ say (c .answer)) × (c .marks ≡ m) × (c .was ≡ was) × (c .now ≡ now)
+call-in-words say file m was answer now l = (
   record {
+    marks = m;
     was = was;
-    answer = walkedOf (walkOf (askWith file was));
+    answer = walkedOf (walkOf (askWith file m was));
     now = now;
-    promised = record { answers = refl; lists = l .lists; fills = l .fills; recorded = l .recorded };
+    promised = record { answers = refl; lists = l .lists; fills = l .fills; recorded = l .recorded; marked = l .marked };
   },
   l .answers,
+  refl,
   refl,
   refl,
 )

@@ -56,7 +56,7 @@ pub record Ids (slots : ℕ) (l : List Entry) : Type 0 where
   pub distinct : Distinct (map idOf l)
   pub below : Below slots (map idOf l)
 
-ids-enter : (E : Parameters) (parent : ℕ) (path : List ℕ) (p stop : ℕ) (l : List Entry) → visitCheck E path p stop l ≡ Passed
+pub ids-enter : (E : Parameters) (parent : ℕ) (path : List ℕ) (p stop : ℕ) (l : List Entry) → visitCheck E path p stop l ≡ Passed
     → Ids (E .asked .lent .slots) l → Ids (E .asked .lent .slots) (snoc l (entryAt (E .asked .file) parent path p))
 unfolding entryAt
 ids-enter E parent path p stop l v h =

@@ -3,7 +3,7 @@ use Prim.Native.Nat.{ℕ, _≤_}
 use mathlib.Core.Bool.{Bool, true, false, not}
 use mathlib.Core.List.{List, [], _∷_, _++_}
 use mathlib.Core.Logic.{_⊎_, inl, inr}
-use mathlib.Core.Path.{_≡_, refl, sym, ap, subst}
+use mathlib.Core.Path.{_≡_, refl, sym, ap, _∙_, subst}
 use native.Mathlib.Omega.{arith}
 use borrow.Author.Tests.{lt-ltb, ltb-true}
 use lib.Dec.{ltb, leb}
@@ -18,8 +18,11 @@ use Rattle.open.specs.Opening.{field, opening, pairs, onOpened}
 use Rattle.context.specs.Context.{Targets, ctxId, contextRule, linksRule, childrenRule, targetsOf}
 use Rattle.context.specs.Entry.{Entry}
 use Rattle.traversal.specs.Demand3.{Begins, WantsRoom}
-use Rattle.traversal.specs.Traversal.{Lengths, ask, Outcome, on, cut, refused, listOf, endless, seen, slotCheck, visitCheck, enter, bind, level, depthLimit, fromRoots, traversal}
+use Rattle.traversal.specs.Traversal.{Lengths, Marks, ask, Outcome, on, cut, refused, listOf, endless, seen, slotCheck, visitCheck, enter, bind, level, depthLimit, fromRoots, traversal}
+use Rattle.traversal.specs.From.{isPassed, afterMark, fromMark}
 use Rattle.traversal.proofs.Begins.{begins-refl, begins-trans, begins-snoc}
+use Rattle.traversal.proofs.From.{from-passed, from-unpassed, list-passed}
+use Rattle.traversal.proofs.Passing.{passed-append, after-append}
 use Rattle.traversal.proofs.Grows.{Grows, grows-bind}
 use Rattle.traversal.proofs.Alike.{always, left, right, alike-level}
 
@@ -70,9 +73,9 @@ module _ (K K' : List Entry → Outcome) (l : List Entry) (x : Entry) (g : Grows
       go (Refused r) = inl refl
   wider-enter v v' k (inr s) = inr (s .0, l, s .1 .0, rw (s .1 .1), grows-enter v')
 
-module _ (file : List ℕ) (t : Targets) (n n' : Lengths) (le : n .slots ≤ n' .slots) where
+module _ (file : List ℕ) (m : Marks) (t : Targets) (n n' : Lengths) (le : n .slots ≤ n' .slots) where
   same-check : (path : List ℕ) (p stop : ℕ) (l : List Entry)
-      → Same (visitCheck (left file t n n' always always) path p stop l) (visitCheck (right file t n n' always always) path p stop l)
+      → Same (visitCheck (left file m m t n n' always always) path p stop l) (visitCheck (right file m m t n n' always always) path p stop l)
   unfolding visitCheck slotCheck
   same-check path p stop l =
       let id = field file p ctxId in
@@ -84,9 +87,9 @@ module _ (file : List ℕ) (t : Targets) (n n' : Lengths) (le : n .slots ≤ n' 
       (λ e. lt-ltb id (n' .slots) (omega (arith, ltb-true id (n .slots) e)))))))
 
   wider-level : (levels parent : ℕ) (path : List ℕ) (from stop : ℕ) (l : List Entry)
-      → Wider (level (left file t n n' always always) levels parent path from stop l) (level (right file t n n' always always) levels parent path from stop l)
+      → Wider (level (left file m m t n n' always always) levels parent path from stop l) (level (right file m m t n n' always always) levels parent path from stop l)
   wider-level levels parent path from stop l =
-      alike-level file t n n' always always (λ l. Unit {0}) Wider
+      alike-level file m m t n n' always always (λ l. Unit {0}) Wider
       (record {
         stay = λ l h. inl refl;
         follow = λ o o' K K' g g' w k. wider-bind o o' K K' g' w (λ l. k l tt);
@@ -94,19 +97,40 @@ module _ (file : List ℕ) (t : Targets) (n n' : Lengths) (le : n .slots ≤ n' 
       }) levels parent path from stop l tt
 
 -- with a table at least as long
-pub wider-traversal : (file : List ℕ) (n n' : Lengths) → n .slots ≤ n' .slots
-    → Wider (traversal (ask file n)) (traversal (ask file n'))
+pub wider-traversal : (file : List ℕ) (m : Marks) (n n' : Lengths) → n .slots ≤ n' .slots
+    → Wider (traversal (ask file m n)) (traversal (ask file m n'))
 unfolding traversal onOpened fromRoots ifPassed
-wider-traversal file n n' le = go (opening meta file)
+wider-traversal file m n n' le = go (opening meta file)
   where
     t : Targets
     t = targetsOf file (pairs meta file)
 
     go : (v : Check)
-        → Wider (ifPassed (λ r. refused r []) v (fromRoots (endless (ask file n) t))) (ifPassed (λ r. refused r []) v (fromRoots (endless (ask file n') t)))
-    go Passed = wider-level file t n n' le _ 0 [] _ _ []
+        → Wider (ifPassed (λ r. refused r []) v (fromRoots (endless (ask file m n) t))) (ifPassed (λ r. refused r []) v (fromRoots (endless (ask file m n') t)))
+    go Passed = wider-level file m t n n' le _ 0 [] _ _ []
     go (Refused r) = inl refl
 
 pub wider-begins : (o o' : Outcome) → Wider o o' → Begins (listOf o) (listOf o')
 wider-begins o o' (inl e) = subst (λ (x : Outcome). Begins (listOf o) (listOf x)) e (begins-refl (listOf o))
 wider-begins o o' (inr w) = subst (λ (x : Outcome). Begins (listOf x) (listOf o')) (sym (w .3)) (w .4)
+
+-- ---- from a mark: what stands up to its context stays
+
+from-refused : (path : List ℕ) (r : Refusal) (m : List Entry) (o : Outcome) → Begins m (listOf o)
+    → (k : List Entry) × ((fromMark path (refused r m) ≡ refused r k) × Begins k (listOf (fromMark path o)))
+from-refused path r m o g = go (isPassed path m) refl
+  where
+    go : (b : Bool) → isPassed path m ≡ b
+        → (k : List Entry) × ((fromMark path (refused r m) ≡ refused r k) × Begins k (listOf (fromMark path o)))
+    go true e =
+        let p : isPassed path (listOf o) ≡ true = ap (isPassed path) (g .1) ∙ passed-append path m (g .0) e in
+        let f : listOf (fromMark path o) ≡ afterMark path m ++ g .0 =
+        list-passed path o p ∙ ap (afterMark path) (g .1) ∙ after-append path m (g .0) e in
+        (afterMark path m, (from-passed path (refused r m) e, (g .0, f)))
+    go false e = ([], (from-unpassed path (refused r m) e, (listOf (fromMark path o), refl)))
+
+pub wider-from : (path : List ℕ) (o o' : Outcome) → Wider o o' → Wider (fromMark path o) (fromMark path o')
+wider-from path o o' (inl e) = inl (ap (fromMark path) e)
+wider-from path o o' (inr w) =
+    let s = from-refused path (w .0) (w .1) o' (w .4) in
+    inr (w .0, s .0, w .2, ap (fromMark path) (w .3) ∙ s .1 .0, s .1 .1)

@@ -1,28 +1,34 @@
--- Demand 3, "one claim about any two such walks": of any one walk, and of any two of the same bytes. The trail is `traversal`.
+-- Demand 3, "one claim about any two such walks": of any one walk, and of any two of the same bytes. "Demand 3 then reads for each mark,
+-- over the trail from just after it": `trailFrom`, which for no mark is the trail.
 use Prim.Native.Nat.{ℕ, _≤_, _<_, min}
-use mathlib.Core.List.{List, _∷_, _++_, map}
+use mathlib.Core.Bool.{true, false}
+use mathlib.Core.List.{List, [], _∷_, _++_, map}
 use mathlib.Core.Logic.{_↔_}
 use mathlib.Core.Path.{_≡_}
 use lib.ListN.{length, getD, take, drop}
 use Rattle.refusal.specs.declared.Refusal.{Refusal}
 use Rattle.refusal.specs.declared.Refusal.the-variants as No
 use Rattle.refusal.specs.declared.Check.the-variants as Check
-use Rattle.open.specs.Format.{meta}
-use Rattle.open.specs.Opening.{opening}
 use Rattle.context.specs.Entry.{Entry}
 use Rattle.traversal.specs.declared.Walked.{Walked}
 use Rattle.traversal.specs.declared.Walked.the-variants.{Complete, Truncated, Refused}
-use Rattle.traversal.specs.Traversal.{listOf, traversal}
-use Rattle.traversal.specs.Walk.{walkedOf, numberListed, placeOf, Slices, askWith, Leaves, itself}
+use Rattle.traversal.specs.Traversal.{Marks, Asked, listOf, traversal}
+use Rattle.traversal.specs.From.{upToMark}
+use Rattle.traversal.specs.Walk.{walkCheck, givenPath, trailFrom, markPassed, reached, walkedOf, numberListed, placeOf, Slices, askWith, LeavesFrom, itself}
 
--- a walk of a file as its caller sees it: what was lent, the answer, what stands there afterwards; as the contracts promise it
+-- a walk of a file as its caller sees it: marks given and asked for, what was lent, the answer, what stands there afterwards; as the
+-- contracts promise it
 pub record Call (file : List ℕ) : Type 0 where
+  pub marks : Marks
   pub was : Slices
   pub answer : Walked
   pub now : Slices
-  pub promised : Leaves itself file was answer now
+  pub promised : LeavesFrom itself file marks was answer now
 
 module _ {file : List ℕ} (c : Call file) where
+  abbrev pub asked : Asked
+  asked = askWith file (c .marks) (c .was)
+
   abbrev pub listedNumber : ℕ
   listedNumber = numberListed (c .answer)
 
@@ -30,12 +36,18 @@ module _ {file : List ℕ} (c : Call file) where
   abbrev pub listedWords : List ℕ
   listedWords = take listedNumber (c .now .listing)
 
-  -- the contexts on the trail, and those of them that are listed
+  -- the contexts on the trail from just after the mark, and those of them that are listed
   abbrev pub trail : List Entry
-  trail = listOf (traversal (askWith file (c .was)))
+  trail = listOf (trailFrom asked)
 
   abbrev pub listed : List Entry
   listed = take listedNumber trail
+
+  -- refused, and nothing written
+  abbrev pub Untouched : Refusal → Type 0
+  Untouched r =
+      (c .answer ≡ Refused r 0) × (c .now .listing ≡ c .was .listing) × (c .now .table ≡ c .was .table) × (c .now .records ≡ c .was .records)
+      × (c .now .mark ≡ c .was .mark)
 
 -- ---- of one walk
 
@@ -53,14 +65,17 @@ pub record OneWalk {file : List ℕ} (c : Call file) : Type 0 where
   -- "It says cut exactly when the trail has more contexts than the listing has words"
   pub says-cut : (c .answer ≡ Truncated (listedNumber c)) ↔ (length (c .was .listing) < length (trail c))
   -- "otherwise it gives the trail's end"
-  pub gives-end : length (trail c) ≤ length (c .was .listing) → c .answer ≡ walkedOf (traversal (askWith file (c .was)))
-  -- "The table is 0 except that slot ctxId of each listed context holds its place."
-  pub slot : opening meta file ≡ Check.Passed → (e : Entry) → In e (listed c) → getD (c .now .table) (e .ctxId) 0 ≡ e .place
-  pub no-slot : opening meta file ≡ Check.Passed → (i : ℕ) → ((e : Entry) → In e (listed c) → e .ctxId ≡ i → ⊥) → getD (c .now .table) i 0 ≡ 0
+  pub gives-end : length (trail c) ≤ length (c .was .listing) → c .answer ≡ walkedOf (trailFrom (asked c))
+  -- "The table is 0 except that slot ctxId of each listed context holds its place": of each "up to that new mark"
+  pub slot : walkCheck (asked c) ≡ Check.Passed → (e : Entry) → In e (reached (asked c)) → getD (c .now .table) (e .ctxId) 0 ≡ e .place
+  pub no-slot : walkCheck (asked c) ≡ Check.Passed → (i : ℕ) → ((e : Entry) → In e (reached (asked c)) → e .ctxId ≡ i → ⊥)
+      → getD (c .now .table) i 0 ≡ 0
   pub slots : length (c .now .table) ≡ length (c .was .table)
-  -- "If opening refuses, 0 are listed and neither slice changes."
-  pub not-opened : (r : Refusal) → opening meta file ≡ Check.Refused r
-      → (c .answer ≡ Refused r 0) × (c .now .listing ≡ c .was .listing) × (c .now .table ≡ c .was .table)
+  -- those passed over, up to the mark given, and those listed; none where the mark was not passed
+  pub up-to : markPassed (asked c) ≡ true → reached (asked c) ≡ upToMark (givenPath (asked c)) (listOf (traversal (asked c))) ++ listed c
+  pub none : walkCheck (asked c) ≡ Check.Passed → markPassed (asked c) ≡ false → reached (asked c) ≡ []
+  -- "If opening refuses, 0 are listed and neither slice changes." So it is with the mark rules that stand before the trail.
+  pub not-begun : (r : Refusal) → walkCheck (asked c) ≡ Check.Refused r → Untouched c r
 
 -- ---- of two
 
@@ -85,13 +100,18 @@ pub record TwoWalks {file : List ℕ} (old new : Call file) : Type 0 where
   pub same-list : Final (old .answer) → listedWords new ≡ listedWords old
   pub same-end : Final (old .answer) → new .answer ≡ old .answer
 
+-- "for each mark, .. where both walks ask for a new mark with the same room for it, or neither asks"
+pub record AskedAlike {file : List ℕ} (c d : Call file) : Type 0 where
+  pub same-marks : c .marks ≡ d .marks
+  pub same-room : c .marks .asks ≡ true → length (c .was .mark) ≡ length (d .was .mark)
+
 -- ---- of any
 
 pub record Demand3 : Type 0 where
   -- "The format defines one trail for a file and a table's length"
-  pub one-trail : (file : List ℕ) (c d : Call file) → length (c .was .table) ≡ length (d .was .table)
-      → traversal (askWith file (c .was)) ≡ traversal (askWith file (d .was))
+  pub one-trail : (file : List ℕ) (c d : Call file) → AskedAlike c d → length (c .was .table) ≡ length (d .was .table)
+      → trailFrom (asked c) ≡ trailFrom (asked d)
   pub one : (file : List ℕ) (c : Call file) → OneWalk c
   -- "with a listing and a table each at least as long, whatever they held"
-  pub two : (file : List ℕ) (old new : Call file) → length (old .was .listing) ≤ length (new .was .listing)
+  pub two : (file : List ℕ) (old new : Call file) → AskedAlike old new → length (old .was .listing) ≤ length (new .was .listing)
       → length (old .was .table) ≤ length (new .was .table) → TwoWalks old new

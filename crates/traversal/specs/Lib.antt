@@ -1,3 +1,5 @@
 pub mod Traversal
+pub mod From
 pub mod Walk
 pub mod Demand3
+pub mod Joined

@@ -16,18 +16,25 @@ use Rattle.context.specs.Entry.{Entry, entryAt}
 
 -- ---- what is asked, and what it comes to
 
--- the lengths of what is lent: words of the listing, slots of the table
+-- the lengths of what is lent: words of the listing, slots of the table, bytes for a new mark
 pub record Lengths : Type 0 where
   pub words : ℕ
   pub slots : ℕ
+  pub bytes : ℕ
+
+-- of marks: the bytes of the one given, and whether a new one is asked for
+pub record Marks : Type 0 where
+  pub given : List ℕ
+  pub asks : Bool
 
 -- what a walk is asked with
 pub record Asked : Type 0 where
   pub file : List ℕ
+  pub marks : Marks
   pub lent : Lengths
 
-abbrev pub ask : (file : List ℕ) → Lengths → Asked
-ask file n = record { file = file; lent = n }
+abbrev pub ask : (file : List ℕ) → Marks → Lengths → Asked
+ask file m n = record { file = file; marks = m; lent = n }
 
 -- with the contexts visited: it goes on, there is no room for one more, or it is refused
 pub data Outcome : Type 0 where

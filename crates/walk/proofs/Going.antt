@@ -11,7 +11,7 @@ use Rattle.context.specs.Entry.{Entry}
 use Rattle.traversal.specs.declared.Walked.{Walked}
 use Rattle.traversal.specs.declared.Walked.the-variants.{Complete, Truncated, Refused}
 use Rattle.traversal.specs.Traversal.{Outcome, on, cut, refused, Parameters, limited, depthLimit, Down, visit, bind, level}
-use Rattle.traversal.specs.Walk.{walkedOf, Slices, askWith}
+use Rattle.traversal.specs.Walk.{walkedOf, Slices, askWith, unmarked}
 use Rattle.traversal.proofs.Steps.{rest, rest-end, rest-step, level-rest, visit-10}
 use Rattle.walk.specs.State.{Holds, Done, ContextDoes}
 use Rattle.walk.proofs.Slices.{recounted}
@@ -35,7 +35,7 @@ module _ (was : Slices) (s : Slices) where
 
 module _ (file : List ℕ) (t : Targets) (depth at stop : ℕ) (was : Slices) (l : List Entry) (parent : ℕ) (ups : List ℕ) where
   abbrev E : Parameters
-  E = limited (askWith file was) t
+  E = limited (askWith file unmarked was) t
 
   abbrev down : Down
   down = level E (suc depthLimit - depth)

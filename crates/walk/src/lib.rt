@@ -7,59 +7,16 @@ ghost use lib.ListN.{length};
 ghost use Rattle.open.specs.Format.{meta};
 ghost use Rattle.open.specs.Kept.{Sections};
 ghost use Rattle.context.specs.Context.{contextRule};
-ghost use Rattle.context.specs.Sound.{targetsIn, Readable};
-ghost use Rattle.traversal.specs.Traversal.{slotCheck, depthLimit};
+ghost use Rattle.context.specs.Sound.{targetsIn};
+ghost use Rattle.traversal.specs.Traversal.{depthLimit};
 ghost use Rattle.traversal.specs.Walk.{slices, Leaves, itself};
-ghost use Rattle.walk.specs.State.{taken, checksAfter10, ArrayDoes, ContextDoes, RecordPut};
+ghost use Rattle.walk.specs.State.{ArrayDoes, ContextDoes};
 use context::CTX_ID;
-use context::RECORD;
 use context::TARGETS;
 use open::CONTEXT;
 use refusal::Check;
 use refusal::Refusal;
 use traversal::Walked;
-
-const DEPTH_LIMIT: u64 = 200;
-
-// 12, 13, 14.
-fn slot_check(table: &[u64], depth: u64, id: usize) -> Check
-    ensures { λ r. ⌜ r ≡ slotCheck depth id (length (now (table .entry))) (taken (now (table .entry)) id) ⌝ }
-{
-    if DEPTH_LIMIT < depth {
-        return Check::Refused(Refusal::Deep);
-    }
-    if table.len() <= id {
-        return Check::Refused(Refusal::Slot);
-    }
-    refusal::rule(table[id] == 0, Refusal::Twice)
-}
-
-// 9; 7; 12, 13, 14.
-fn visit_check(file: &[u8], targets: &[u64; TARGETS], depth: u64, p: usize, table: &[u64]) -> Check
-    requires { ⌜ Readable (now file) p ⌝ }
-    ensures { λ r. ⌜ r ≡ checksAfter10 (now (file .entry)) (targetsIn (now (targets .entry))) depth p (now (table .entry)) ⌝ }
-{
-    let links = context::links_rule(file, targets, p);
-    let children = context::children_rule(file, targets, p);
-    let id = le::load_u32(file, p + CTX_ID) as usize;
-    let slot = slot_check(table, depth, id);
-    refusal::first(
-        refusal::rule(links, Refusal::Link),
-        refusal::first(refusal::rule(children, Refusal::Array), slot),
-    )
-}
-
-// The n-th record, where there is room for all of it.
-fn put_record(file: &[u8], p: usize, depth: u64, records: &mut [u64], n: usize)
-    requires { ⌜ Readable (now file) p ⌝ }
-    ensures { λ _. ⌜ RecordPut (now (file .entry)) p depth n (now (records .entry)) (now (records .exit)) ⌝ }
-{
-    if records.len() / RECORD <= n {
-        return;
-    }
-    let words = context::entry_words(file, p, depth);
-    buffer::store(records, n * RECORD, &words);
-}
 
 // The contexts from `at` to `stop`, at a depth, with all below them; `count` are listed before.
 fn array(
@@ -109,7 +66,7 @@ fn visit(
     ensures { λ r. ⌜ ContextDoes (now (file .entry)) (targetsIn (now (targets .entry))) depth p stop n (slices (now (listing .entry)) (now (table .entry)) (now (records .entry)))
         r (slices (now (listing .exit)) (now (table .exit)) (now (records .exit))) ⌝ }
 {
-    let check = visit_check(file, targets, depth, p, table);
+    let check = visit::visit_check(file, targets, depth, p, table);
     if let Check::Refused(r) = check {
         return Walked::Refused(r, n);
     }
@@ -119,7 +76,7 @@ fn visit(
     let id = le::load_u32(file, p + CTX_ID) as usize;
     listing[n] = p as u64;
     table[id] = p as u64;
-    put_record(file, p, depth, records, n);
+    visit::put_record(file, p, depth, records, n);
     let bytes = le::load_u64(file, p) as usize;
     if bytes == 0 {
         return Walked::Complete(n + 1);

@@ -18,6 +18,10 @@ uint32_t plain_meta_walk(const uint8_t *file, size_t file_length, uint64_t *list
 uint32_t plain_meta_records(const uint8_t *file, size_t file_length, uint64_t *listing, size_t listing_length,
                             uint64_t *table, size_t table_length, uint64_t *records, size_t records_length,
                             uint64_t out[1]);
+uint32_t plain_meta_walk_from(const uint8_t *file, size_t file_length, const uint8_t *mark, size_t mark_length,
+                              uint64_t asks, uint64_t *listing, size_t listing_length, uint64_t *table,
+                              size_t table_length, uint64_t *records, size_t records_length, uint8_t *new_mark,
+                              size_t new_mark_length, uint64_t out[1]);
 
 /* ---- profile.db: profile.c */
 

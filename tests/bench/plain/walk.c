@@ -4,6 +4,9 @@
 
 #include "plain.h"
 
+/* Both walks are compiled as if each were alone, so that the one without a mark does not pay for the other. */
+#define INLINED __attribute__((always_inline)) static inline
+
 /* HEAD_SIZE: bytes of a context before its flex. DEEPEST: a context below this depth is refused, but only after its
  * other checks. */
 enum { HEAD_SIZE = 24, DEEPEST = 200 };
@@ -27,7 +30,7 @@ static inline uint64_t flex_word(const uint8_t *context, unsigned k)
     return load64(context + HEAD_SIZE + 8 * k);
 }
 
-static inline bool links_hold(const struct meta *meta, const uint8_t *context, struct flex flex)
+INLINED bool links_hold(const struct meta *meta, const uint8_t *context, struct flex flex)
 {
     unsigned flags = context[20];
 
@@ -41,7 +44,7 @@ static inline bool links_hold(const struct meta *meta, const uint8_t *context, s
 }
 
 /* The checks of the first context of `rest` that need nothing but the file; gives its size and its children. */
-static inline uint32_t check_context(const struct meta *meta, struct span rest, uint64_t *size, struct span *children)
+INLINED uint32_t check_context(const struct meta *meta, struct span rest, uint64_t *size, struct span *children)
 {
     const uint8_t *context = meta->file + rest.start;
     uint64_t left = rest.end - rest.start;
@@ -60,7 +63,7 @@ static inline uint32_t check_context(const struct meta *meta, struct span rest, 
     return HPCDB_OK;
 }
 
-static inline void write_record(const uint8_t *context, uint64_t place, uint64_t depth, uint64_t *record)
+INLINED void write_record(const uint8_t *context, uint64_t place, uint64_t depth, uint64_t *record)
 {
     unsigned flags = context[20] & (HAS_FUNCTION | HAS_SOURCE | HAS_POINT);
     struct flex flex = flex_of(flags);
@@ -84,9 +87,27 @@ struct lent {
     size_t listing_length, table_length, record_count;
 };
 
-/* Makes the other checks of a context and lists it, as the one after `listed` others. */
-static inline uint32_t list(const struct lent *lent, const uint8_t *context, uint64_t place, uint64_t depth,
-                            uint64_t listed)
+/* For each level down to a context, its number among its siblings. Depth 0 is before the first root. */
+struct path {
+    uint32_t numbers[DEEPEST];
+    uint64_t depth;
+};
+
+/* From a context of the trail to the next one. */
+static inline void step(struct path *path, uint64_t depth)
+{
+    path->numbers[depth - 1] = depth > path->depth ? 0 : path->numbers[depth - 1] + 1;
+    path->depth = depth;
+}
+
+static inline bool same_path(const struct path *a, const struct path *b)
+{
+    return a->depth == b->depth && memcmp(a->numbers, b->numbers, 4 * a->depth) == 0;
+}
+
+/* Makes the other checks of a context and lists it, as the one after `listed` others; or only passes it. */
+INLINED uint32_t list(const struct lent *lent, const uint8_t *context, uint64_t place, uint64_t depth,
+                            bool passes, uint64_t listed)
 {
     uint64_t id = load32(context + 16);
 
@@ -96,6 +117,10 @@ static inline uint32_t list(const struct lent *lent, const uint8_t *context, uin
         return HPCDB_SLOT;
     if (lent->table[id] != 0)
         return HPCDB_TWICE;
+    if (passes) {
+        lent->table[id] = place;
+        return HPCDB_OK;
+    }
     if (listed == lent->listing_length)
         return HPCDB_CUT;
     lent->listing[listed] = place;
@@ -105,10 +130,14 @@ static inline uint32_t list(const struct lent *lent, const uint8_t *context, uin
     return HPCDB_OK;
 }
 
-static uint32_t walk(const struct meta *meta, const struct lent *lent, uint64_t *listed)
+/* Lists the contexts, those up to a mark excepted: if there is one, the path goes along to the last context, from depth
+ * 0 on. */
+INLINED uint32_t walk(const struct meta *meta, const struct lent *lent, const struct path *mark, struct path *path,
+                      uint64_t *listed)
 {
     struct span stack[DEEPEST + 1];
     unsigned level = 0;
+    bool passes = mark != NULL && mark->depth != 0;
 
     stack[0] = meta->roots;
     for (;;) {
@@ -122,13 +151,23 @@ static uint32_t walk(const struct meta *meta, const struct lent *lent, uint64_t 
         uint32_t code;
         if ((code = check_context(meta, stack[level], &size, &children)) != HPCDB_OK)
             return code;
-        if ((code = list(lent, meta->file + place, place, level + 1, *listed)) != HPCDB_OK)
+        if ((code = list(lent, meta->file + place, place, level + 1, passes, *listed)) != HPCDB_OK)
             return code;
-        ++*listed;
+        *listed += !passes;
+        if (mark != NULL) {
+            step(path, level + 1);
+            passes = passes && !same_path(path, mark);
+        }
         stack[level].start += size;
         if (children.start != children.end)
             stack[++level] = children;
     }
+}
+
+static inline void clear(const struct lent *lent)
+{
+    for (size_t k = 0; k < lent->table_length; k++)
+        lent->table[k] = 0;
 }
 
 uint32_t plain_meta_records(const uint8_t *file, size_t file_length, uint64_t *listing, size_t listing_length,
@@ -142,13 +181,68 @@ uint32_t plain_meta_records(const uint8_t *file, size_t file_length, uint64_t *l
     uint32_t code = plain_read_meta(file, file_length, &meta);
     if (code != HPCDB_OK)
         return code;
-    for (size_t k = 0; k < table_length; k++)
-        table[k] = 0;
-    return walk(&meta, &lent, out);
+    clear(&lent);
+    return walk(&meta, &lent, NULL, NULL, out);
 }
 
 uint32_t plain_meta_walk(const uint8_t *file, size_t file_length, uint64_t *listing, size_t listing_length,
                          uint64_t *table, size_t table_length, uint64_t out[1])
 {
     return plain_meta_records(file, file_length, listing, listing_length, table, table_length, NULL, 0, out);
+}
+
+enum { MARK_HEAD = 5, MARK_KIND = 1 };
+
+/* False if the mark is malformed. No bytes are a mark too. */
+static bool read_mark(const uint8_t *mark, size_t length, struct path *path)
+{
+    path->depth = 0;
+    if (length == 0)
+        return true;
+    if (length < MARK_HEAD || load16(mark) != length || load16(mark + 2) != MARK_KIND)
+        return false;
+    path->depth = mark[4];
+    if (path->depth > DEEPEST || length != MARK_HEAD + 4 * path->depth)
+        return false;
+    memcpy(path->numbers, mark + MARK_HEAD, 4 * path->depth);
+    return true;
+}
+
+static void write_mark(const struct path *path, uint8_t *mark)
+{
+    uint16_t length = MARK_HEAD + 4 * path->depth, kind = MARK_KIND;
+
+    memcpy(mark, &length, sizeof length);
+    memcpy(mark + 2, &kind, sizeof kind);
+    mark[4] = path->depth;
+    memcpy(mark + MARK_HEAD, path->numbers, 4 * path->depth);
+}
+
+uint32_t plain_meta_walk_from(const uint8_t *file, size_t file_length, const uint8_t *mark, size_t mark_length,
+                              uint64_t asks, uint64_t *listing, size_t listing_length, uint64_t *table,
+                              size_t table_length, uint64_t *records, size_t records_length, uint8_t *new_mark,
+                              size_t new_mark_length, uint64_t out[1])
+{
+    struct lent lent = {listing, table, records, listing_length, table_length, records_length / HPCDB_RECORD_WORDS};
+    struct meta meta;
+    struct path given, path;
+    uint32_t code;
+
+    out[0] = 0;
+    if (asks != 0 && new_mark_length < HPCDB_MARK_ROOM)
+        return HPCDB_ROOM;
+    if ((code = plain_read_meta(file, file_length, &meta)) != HPCDB_OK)
+        return code;
+    if (!read_mark(mark, mark_length, &given))
+        return HPCDB_MARK;
+    clear(&lent);
+    path.depth = 0;
+    code = walk(&meta, &lent, &given, &path, out);
+    if (out[0] == 0 && !same_path(&path, &given)) {
+        clear(&lent);
+        return code == HPCDB_OK ? HPCDB_MARK : code;
+    }
+    if (asks != 0)
+        write_mark(&path, new_mark);
+    return code;
 }

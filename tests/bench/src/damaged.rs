@@ -39,7 +39,7 @@ fn compare_file(number: u64) -> usize {
 fn ask_plain(question: &Question, file: &[u8], memory: &mut Memory) -> Option<u32> {
     let [a, b, c] = question.numbers;
     let [first, second, third] = memory.slices.each_mut().map(|slice| slice.body_mut());
-    let (out, value) = (memory.out.body_mut(), memory.bytes.body_mut());
+    let (out, bytes) = (memory.out.body_mut(), memory.bytes.body_mut());
     let code = match question.function {
         MetaOpen => plain::hpcdb_meta_open(file, array(out)),
         MetaMetric => plain::hpcdb_meta_metric(file, a, array(out)),
@@ -48,11 +48,15 @@ fn ask_plain(question: &Question, file: &[u8], memory: &mut Memory) -> Option<u3
         MetaFunction => plain::hpcdb_meta_function(file, a, array(out)),
         MetaWalk => plain::hpcdb_meta_walk(file, first, second, array(out)),
         MetaRecords => plain::hpcdb_meta_records(file, first, second, third, array(out)),
+        MetaWalkFrom => {
+            let mark = question.mark.lent();
+            plain::hpcdb_meta_walk_from(file, mark, a, first, second, third, bytes, array(out))
+        }
         ProfileOpen => plain::hpcdb_profile_open(file, array(out)),
-        ProfileLookup => plain::hpcdb_profile_lookup(file, a, b, c, value),
+        ProfileLookup => plain::hpcdb_profile_lookup(file, a, b, c, bytes),
         ProfileLookupMany => plain::hpcdb_profile_lookup_many(file, a, &question.pairs, first),
         CctOpen => plain::hpcdb_cct_open(file, array(out)),
-        CctLookup => plain::hpcdb_cct_lookup(file, a, b, c, value),
+        CctLookup => plain::hpcdb_cct_lookup(file, a, b, c, bytes),
         CctLookupMany => plain::hpcdb_cct_lookup_many(file, a, &question.pairs, first),
         CctTotals => plain::hpcdb_cct_totals(file, a, b, array(out)),
         TraceOpen => plain::hpcdb_trace_open(file, array(out)),

@@ -1,9 +1,9 @@
 //! The C interface of the plain C reader, as `differential::ffi` has the library's: for each function of plain.h a safe
 //! function over slices, under the name that the library's has.
 
-/// After the file come numbers, a slice that is read, slices that are written, and `out`.
+/// After the file come a mark, numbers, a slice that is read, slices that are written, and `out`.
 macro_rules! functions {
-    ($($name:ident = $symbol:literal($($number:ident),*)
+    ($($name:ident = $symbol:literal $(from $mark:ident)? ($($number:ident),*)
         $(reads($read:ident))? $(writes($($written:ident: $unit:ty),*))? $(out $words:literal)?;)*) => {
         mod exported {
             extern "C" {
@@ -12,6 +12,7 @@ macro_rules! functions {
                     pub fn $name(
                         file: *const u8,
                         file_length: usize,
+                        $($mark: *const u8, _: usize,)?
                         $($number: u64,)*
                         $($read: *const u64, _: usize,)?
                         $($($written: *mut $unit, _: usize,)*)?
@@ -21,8 +22,10 @@ macro_rules! functions {
             }
         }
         $(
+            #[allow(clippy::too_many_arguments, reason = "they are those of the C function")]
             pub fn $name(
                 file: &[u8],
+                $($mark: &[u8],)?
                 $($number: u64,)*
                 $($read: &[u64],)?
                 $($($written: &mut [$unit],)*)?
@@ -33,6 +36,7 @@ macro_rules! functions {
                     exported::$name(
                         file.as_ptr(),
                         file.len(),
+                        $($mark.as_ptr(), $mark.len(),)?
                         $($number,)*
                         $($read.as_ptr(), $read.len(),)?
                         $($($written.as_mut_ptr(), $written.len(),)*)?
@@ -52,6 +56,8 @@ functions! {
     hpcdb_meta_function = "plain_meta_function"(i) out 7;
     hpcdb_meta_walk = "plain_meta_walk"() writes(listing: u64, table: u64) out 1;
     hpcdb_meta_records = "plain_meta_records"() writes(listing: u64, table: u64, records: u64) out 1;
+    hpcdb_meta_walk_from = "plain_meta_walk_from" from mark (asks)
+        writes(listing: u64, table: u64, records: u64, new_mark: u8) out 1;
     hpcdb_profile_open = "plain_profile_open"() out 1;
     hpcdb_profile_lookup = "plain_profile_lookup"(profile, context, metric) writes(value: u8);
     hpcdb_profile_lookup_many = "plain_profile_lookup_many"(profile) reads(pairs) writes(answers: u64);

@@ -3,7 +3,7 @@
 use std::hint::black_box;
 
 use differential::gen::large;
-use differential::reader::walk::RECORD_WORDS;
+use differential::reader::walk::{MARK_ROOM, RECORD_WORDS};
 use differential::{by_reader, ffi, writer};
 
 use crate::questions::{random_numbers, random_pairs, regular_pairs, sorted, Ids};
@@ -26,14 +26,22 @@ struct WalkMemory {
     listing: Vec<u64>,
     table: Vec<u64>,
     records: Vec<u64>,
+    new_mark: [u8; MARK_ROOM],
     out: [u64; 1],
 }
 
 impl WalkMemory {
     fn new(contexts: usize, records: usize) -> WalkMemory {
         let [listing, table, records] = [contexts, contexts, RECORD_WORDS * records].map(|n| vec![UNWRITTEN; n]);
-        WalkMemory { listing, table, records, out: [UNWRITTEN] }
+        WalkMemory { listing, table, records, new_mark: [UNWRITTEN as u8; MARK_ROOM], out: [UNWRITTEN] }
     }
+}
+
+/// The mark of the n-th context of a sound file.
+fn mark_of(file: &[u8], n: usize) -> Vec<u8> {
+    let WalkMemory { mut table, mut new_mark, mut out, .. } = WalkMemory::new(MILLION, 0);
+    by_reader::hpcdb_meta_walk_from(file, &[], 1, &mut vec![0; n], &mut table, &mut [], &mut new_mark, &mut out);
+    new_mark[..u16::from_le_bytes([new_mark[0], new_mark[1]]).into()].to_vec()
 }
 
 pub fn walks(run: &mut Run) {
@@ -49,6 +57,19 @@ pub fn walks(run: &mut Run) {
             &mut m.listing,
             &mut m.table,
             &mut m.records,
+            &mut m.out
+        ));
+        let what = format!("walk of 1,000,000 contexts from a mark in the middle, {arrays}");
+        let memory = WalkMemory::new(MILLION, 0);
+        let mark = mark_of(&file, MILLION / 2);
+        row!(run, &what, &[()], memory, |_, m| hpcdb_meta_walk_from(
+            &file,
+            &mark,
+            1,
+            &mut m.listing,
+            &mut m.table,
+            &mut m.records,
+            &mut m.new_mark,
             &mut m.out
         ));
     }

@@ -150,6 +150,21 @@ pub fn hpcdb_meta_records(
     walk_written(walk::records(file, listing, table, records), out)
 }
 
+#[allow(clippy::too_many_arguments, reason = "they are those of the C function")]
+pub fn hpcdb_meta_walk_from(
+    file: &[u8],
+    mark: &[u8],
+    asks: u64,
+    listing: &mut [u64],
+    table: &mut [u64],
+    records: &mut [u64],
+    new_mark: &mut [u8],
+    out: &mut [u64; 1],
+) -> u32 {
+    let asked = (asks != 0).then_some(new_mark);
+    walk_written(walk::walk_from(file, mark, listing, table, records, asked), out)
+}
+
 pub fn hpcdb_cct_totals(file: &[u8], context: u64, metric: u64, out: &mut [u64; 6]) -> u32 {
     let words = cct::totals(file, context, metric).map(|found| {
         found.map(|totals| {

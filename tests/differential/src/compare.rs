@@ -16,7 +16,7 @@ pub struct Difference {
     pub library: Reply,
     pub reader: Reply,
     pub sentinels_stand: bool,
-    pub file_as_it_was: bool,
+    pub read_as_it_was: bool,
 }
 
 pub fn compare(question: &Question, file: &LentFile) -> Result<Reply, Box<Difference>> {
@@ -26,12 +26,13 @@ pub fn compare(question: &Question, file: &LentFile) -> Result<Reply, Box<Differ
     let mut memory = question.memory();
     let code = question.ask_reader(file.bytes(), &mut memory);
     let reader = Reply { code, memory };
-    let (sentinels_stand, file_as_it_was) = (library.memory.sentinels_stand(), file.is_as_it_was());
+    let sentinels_stand = library.memory.sentinels_stand();
+    let read_as_it_was = file.is_as_it_was() && question.mark.is_as_it_was();
     let same = library.code == reader.code && library.memory.holds_the_same_as(&reader.memory);
-    if same && sentinels_stand && file_as_it_was {
+    if same && sentinels_stand && read_as_it_was {
         return Ok(reader);
     }
-    Err(Box::new(Difference { library, reader, sentinels_stand, file_as_it_was }))
+    Err(Box::new(Difference { library, reader, sentinels_stand, read_as_it_was }))
 }
 
 impl fmt::Display for Difference {
@@ -46,8 +47,8 @@ impl fmt::Display for Difference {
         if !self.sentinels_stand {
             writeln!(f, "the library wrote beside a slice that it was lent")?;
         }
-        if !self.file_as_it_was {
-            writeln!(f, "the library wrote into the file or beside it")?;
+        if !self.read_as_it_was {
+            writeln!(f, "the library wrote into what it was lent to read, or beside it")?;
         }
         Ok(())
     }

@@ -70,6 +70,22 @@ mod slices {
             records_length: usize,
             out: *mut [u64; 1],
         ) -> u32;
+        pub fn hpcdb_meta_walk_from(
+            file: *const u8,
+            file_length: usize,
+            mark: *const u8,
+            mark_length: usize,
+            asks: u64,
+            listing: *mut u64,
+            listing_length: usize,
+            table: *mut u64,
+            table_length: usize,
+            records: *mut u64,
+            records_length: usize,
+            new_mark: *mut u8,
+            new_mark_length: usize,
+            out: *mut [u64; 1],
+        ) -> u32;
         pub fn hpcdb_profile_lookup(
             file: *const u8,
             file_length: usize,
@@ -155,6 +171,38 @@ pub fn hpcdb_meta_records(
             table.len(),
             records.as_mut_ptr(),
             records.len(),
+            out,
+        )
+    }
+}
+
+#[allow(clippy::too_many_arguments, reason = "they are those of the C function")]
+pub fn hpcdb_meta_walk_from(
+    file: &[u8],
+    mark: &[u8],
+    asks: u64,
+    listing: &mut [u64],
+    table: &mut [u64],
+    records: &mut [u64],
+    new_mark: &mut [u8],
+    out: &mut [u64; 1],
+) -> u32 {
+    // SAFETY: each slice's pointer is valid for the length behind it, `out` for its word.
+    unsafe {
+        slices::hpcdb_meta_walk_from(
+            file.as_ptr(),
+            file.len(),
+            mark.as_ptr(),
+            mark.len(),
+            asks,
+            listing.as_mut_ptr(),
+            listing.len(),
+            table.as_mut_ptr(),
+            table.len(),
+            records.as_mut_ptr(),
+            records.len(),
+            new_mark.as_mut_ptr(),
+            new_mark.len(),
             out,
         )
     }

@@ -14,6 +14,7 @@ fn unwritten(i: usize) -> u64 {
 const SENTINEL: u64 = 0x5e47_1e15_5e47_1e15;
 
 /// A slice with sentinels before and behind it.
+#[derive(Clone, Debug)]
 pub struct Lent<T> {
     cells: Vec<T>,
     front: usize,
@@ -54,7 +55,8 @@ pub struct Memory {
     pub out: Lent<u64>,
     /// of a walk: listing, table, records; of a batch: answers
     pub slices: [Lent<u64>; 3],
-    /// of a lookup: the bytes for the value; of the writer: those for the file; at an odd address
+    /// of a lookup: the bytes for the value; of the writer: those for the file; of a walk: those for a new mark; at an
+    /// odd address
     pub bytes: Lent<u8>,
 }
 
@@ -81,7 +83,8 @@ impl Memory {
     }
 }
 
-/// A file that is lent to be read: its bytes and the sentinels around them are the same after each call.
+/// A file, or a mark, that is lent to be read: its bytes and the sentinels around them are the same after each call.
+#[derive(Clone, Debug)]
 pub struct LentFile {
     original: Vec<u8>,
     lent: Lent<u8>,

@@ -5,6 +5,7 @@ pub mod by_reader;
 pub mod compare;
 pub mod ffi;
 pub mod gen;
+pub mod joined;
 pub mod lent;
 pub mod question;
 pub mod read_back;

@@ -1,6 +1,6 @@
 //! Questions: a function of the interface with its arguments. The library is asked as the reader or the writer is.
 
-use crate::lent::Memory;
+use crate::lent::{LentFile, Memory};
 use crate::writer::Lists;
 use crate::{by_reader, ffi};
 
@@ -33,6 +33,7 @@ pub enum Function {
     MetaFunction,
     MetaWalk,
     MetaRecords,
+    MetaWalkFrom,
     CctTotals,
     ProfileTuple,
     ProfileIdentifier,
@@ -73,7 +74,7 @@ const fn row(
 }
 
 /// The table of the interface, in the order of `Function`: numbers taken, words of `out`, codes.
-pub const FUNCTIONS: [Row; 30] = [
+pub const FUNCTIONS: [Row; 31] = [
     row(MetaOpen, "hpcdb_meta_open", Meta, [0, 16], &[0]),
     row(ProfileOpen, "hpcdb_profile_open", Profile, [0, 1], &[0]),
     row(CctOpen, "hpcdb_cct_open", Cct, [0, 1], &[0]),
@@ -93,6 +94,7 @@ pub const FUNCTIONS: [Row; 30] = [
     row(MetaFunction, "hpcdb_meta_function", Meta, [1, 7], &[0, 8, 9, 15]),
     row(MetaWalk, "hpcdb_meta_walk", Meta, [0, 1], &[0, 7, 9, 10, 12, 13, 14, 101]),
     row(MetaRecords, "hpcdb_meta_records", Meta, [0, 1], &[0, 7, 9, 10, 12, 13, 14, 101]),
+    row(MetaWalkFrom, "hpcdb_meta_walk_from", Meta, [1, 1], &[0, 7, 9, 10, 12, 13, 14, 17, 18, 101]),
     row(CctTotals, "hpcdb_cct_totals", Cct, [2, 6], &[0, 7, 11, 15, 16, 100]),
     row(ProfileTuple, "hpcdb_profile_tuple", Profile, [1, 1], &[0, 7, 15]),
     row(ProfileIdentifier, "hpcdb_profile_identifier", Profile, [2, 4], &[0, 7, 15]),
@@ -144,6 +146,10 @@ macro_rules! ask_through {
             MetaFunction => $interface::hpcdb_meta_function(file, a, array(out)),
             MetaWalk => $interface::hpcdb_meta_walk(file, first, second, array(out)),
             MetaRecords => $interface::hpcdb_meta_records(file, first, second, third, array(out)),
+            MetaWalkFrom => {
+                let mark = question.mark.lent();
+                $interface::hpcdb_meta_walk_from(file, mark, a, first, second, third, bytes, array(out))
+            }
             CctTotals => $interface::hpcdb_cct_totals(file, a, b, array(out)),
             ProfileTuple => $interface::hpcdb_profile_tuple(file, a, array(out)),
             ProfileIdentifier => $interface::hpcdb_profile_identifier(file, a, b, array(out)),
@@ -181,17 +187,27 @@ pub struct Question {
     pub numbers: [u64; 3],
     /// words lent: of a walk listing, table, records; of a batch answers
     pub rooms: [usize; 3],
-    /// bytes lent for a lookup's value, or for the file that is written
+    /// bytes lent for a lookup's value, for the file that is written, or for a new mark
     pub byte_room: usize,
     /// of a batch
     pub pairs: Vec<u64>,
     /// of the writer
     pub survey: Survey,
+    /// of a walk from a mark
+    pub mark: LentFile,
 }
 
 impl Question {
     pub fn new(function: Function, numbers: [u64; 3]) -> Question {
-        Question { function, numbers, rooms: [0; 3], byte_room: 0, pairs: Vec::new(), survey: Survey::default() }
+        Question {
+            function,
+            numbers,
+            rooms: [0; 3],
+            byte_room: 0,
+            pairs: Vec::new(),
+            survey: Survey::default(),
+            mark: LentFile::new(Vec::new(), 0, 0),
+        }
     }
 
     /// Memory as it is before the call.

@@ -7,20 +7,22 @@ use std::fmt::Write as _;
 use crate::by_reader::{ABSENT, ANSWERED, CUT};
 use crate::compare::Reply;
 use crate::gen::{Known, Specimen};
+use crate::joined::{new_mark, Outcome};
 use crate::question::Function::*;
 use crate::question::{Database, Question, Row, FUNCTIONS};
-use crate::reader::walk::RECORD_WORDS;
-use crate::reader::Refusal;
+use crate::reader::walk::{Path, MARK_ROOM, RECORD_WORDS};
+use crate::reader::{meta, Refusal};
 use crate::writer::{self, profile_of, Lists};
 
 /// Codes of opening.
 const OPENING: [u32; 7] = [1, 2, 3, 4, 5, 6, 7];
 const FOOTER: u32 = 4;
 
-/// Refusals of the writer.
+/// Refusals of the writer, and of a walk from a mark.
 const ORDER: u32 = Refusal::Order as u32;
 const INDEX: u32 = Refusal::Index as u32;
 const ROOM: u32 = Refusal::Room as u32;
+const MARK: u32 = Refusal::Mark as u32;
 
 /// Each code that a function can give is to occur this often in a run of full length, each kind of answer too.
 const LEAST: u64 = 50;
@@ -35,7 +37,7 @@ pub struct Tally {
 }
 
 /// Kinds of answers and files that a run has to meet.
-const KINDS: [&str; 32] = [
+const KINDS: [&str; 53] = [
     "sound file",
     "damaged file",
     "sound lists",
@@ -54,6 +56,27 @@ const KINDS: [&str; 32] = [
     "whole tree of no context",
     "whole tree of more than 100 contexts",
     "room that ends inside a record",
+    "malformed mark",
+    "malformed mark of a file that does not open",
+    "mark of no context",
+    "refused 17 for one byte of a mark",
+    "refused 17 of a file that does not open",
+    "refused 7 without passing the mark",
+    "refused 9 without passing the mark",
+    "refused 10 without passing the mark",
+    "refused 12 without passing the mark",
+    "refused 13 without passing the mark",
+    "refused 14 without passing the mark",
+    "refused right after the mark",
+    "cut right after the mark",
+    "whole right after the mark",
+    "contexts listed after the mark",
+    "mark of depth 0 handed out",
+    "mark of depth 200 handed out",
+    "two joined parts",
+    "three joined parts or more",
+    "joined parts, one with room for none",
+    "joined parts, the first without a new mark",
     "infinite sum of finite values",
     "lookup in a large block",
     "empty trace line",
@@ -94,6 +117,7 @@ impl Tally {
         let out = reply.memory.out.body();
         match question.function {
             MetaWalk | MetaRecords => self.add_walk(question, reply.code, out[0]),
+            MetaWalkFrom => self.add_walk_from(question, &specimen.bytes, reply),
             ProfileWrite => self.add_write(question, &specimen.bytes, reply),
             _ if reply.code != ANSWERED => {}
             MetaFunction => self.add_kind(if out[0] == 0 { "name in the file" } else { "placeholder for a name" }),
@@ -127,6 +151,62 @@ impl Tally {
         let room = question.rooms[2];
         if !room.is_multiple_of(RECORD_WORDS) && room / RECORD_WORDS < listed as usize {
             self.add_kind("room that ends inside a record");
+        }
+    }
+
+    fn add_walk_from(&mut self, question: &Question, file: &[u8], reply: &Reply) {
+        let given = Path::of_mark(question.mark.bytes());
+        match (reply.code, meta::sections_of(file).is_ok(), &given) {
+            (MARK, _, Ok(_)) => self.add_kind("mark of no context"),
+            (MARK, _, Err(_)) => self.add_kind("malformed mark"),
+            (ROOM, false, _) => self.add_kind("refused 17 of a file that does not open"),
+            (ROOM, true, _) if question.byte_room + 1 == MARK_ROOM => {
+                self.add_kind("refused 17 for one byte of a mark")
+            }
+            (_, false, Err(_)) => self.add_kind("malformed mark of a file that does not open"),
+            (code, true, Ok(Path(given))) if question.numbers[0] != 0 => match new_mark(question, reply) {
+                Some(new) => self.add_handed_out(given, &new, code, reply.memory.out.body()[0]),
+                None => self.add_unpassed(code),
+            },
+            _ => {}
+        }
+    }
+
+    fn add_unpassed(&mut self, code: u32) {
+        match code {
+            7 => self.add_kind("refused 7 without passing the mark"),
+            9 => self.add_kind("refused 9 without passing the mark"),
+            10 => self.add_kind("refused 10 without passing the mark"),
+            12 => self.add_kind("refused 12 without passing the mark"),
+            13 => self.add_kind("refused 13 without passing the mark"),
+            14 => self.add_kind("refused 14 without passing the mark"),
+            _ => {}
+        }
+    }
+
+    /// A mark that has no number is before the first root, and says nothing of its own.
+    fn add_handed_out(&mut self, given: &[u32], new: &[u8], code: u32, listed: u64) {
+        match (code, listed) {
+            _ if given.is_empty() => {}
+            (CUT, 0) => self.add_kind("cut right after the mark"),
+            (ANSWERED, 0) => self.add_kind("whole right after the mark"),
+            (_, 0) => self.add_kind("refused right after the mark"),
+            _ => self.add_kind("contexts listed after the mark"),
+        }
+        match new[4] {
+            0 => self.add_kind("mark of depth 0 handed out"),
+            200 => self.add_kind("mark of depth 200 handed out"),
+            _ => {}
+        }
+    }
+
+    pub fn add_joined(&mut self, parts: &[usize], outcome: &Outcome) {
+        self.add_kind(if parts.len() == 2 { "two joined parts" } else { "three joined parts or more" });
+        if parts.contains(&0) {
+            self.add_kind("joined parts, one with room for none");
+        }
+        if outcome.new_mark.is_none() {
+            self.add_kind("joined parts, the first without a new mark");
         }
     }
 

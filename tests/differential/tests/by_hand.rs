@@ -1,4 +1,5 @@
-//! The reader over files written out by hand: trace lines, tuples, batches; the writer and the library over lists.
+//! The reader over files written out by hand: trace lines, tuples, batches; the reader and the library over marks; the
+//! writer and the library over lists.
 
 use differential::reader::trace::Sample;
 use differential::reader::{profile, trace, Refusal};
@@ -113,6 +114,65 @@ fn batches() {
     assert_eq!(profile::lookup_many(&[], 0, &pairs, &mut answers), Err(Refusal::Room));
     assert_eq!(profile::lookup_many(&[], 0, &pairs[..4], &mut answers), Err(Refusal::Short));
     assert_eq!(answers, [55; 5]);
+}
+
+/// A meta.db without names: 70,001 contexts, of which the first has all the others as its children.
+fn wide_file() -> Vec<u8> {
+    const CHILDREN: u64 = 70_000;
+    let mut file = b"HPCTOOLKITmeta\x04\x00".to_vec();
+    let (places, contexts) = ([144, 160, 176, 192], 16 + 24 * (1 + CHILDREN));
+    let behind = places[3] + contexts;
+    file.extend(bytes(&[(8, 16), (8, places[0]), (8, 16), (8, places[1]), (8, 16), (8, places[2])]));
+    file.extend(bytes(&[(8, contexts), (8, places[3]), (8, 0), (8, 0)]));
+    file.extend(bytes(&[(8, 16), (8, behind), (8, 16), (8, behind + 16), (8, 16), (8, behind + 32)]));
+    file.extend(bytes(&[(8, 0), (8, 0), (8, 0), (8, 0), (8, 0), (4, 0), (1, 24), (1, 24), (2, 16)]));
+    file.extend(bytes(&[(8, 24), (8, places[3] + 16)]));
+    file.extend(bytes(&[(8, 24 * CHILDREN), (8, places[3] + 40), (8, 0)]));
+    file.extend((1..=CHILDREN).flat_map(|id| bytes(&[(8, 0), (8, 0), (8, id)])));
+    for stride in [16, 16, 40] {
+        file.extend(bytes(&[(8, 0), (4, 0), (4, stride)]));
+    }
+    file.extend(b"_meta.db");
+    file
+}
+
+type WalkFrom = fn(&[u8], &[u8], u64, &mut [u64], &mut [u64], &mut [u64], &mut [u8], &mut [u64; 1]) -> u32;
+
+/// Code, number listed, the one word of the listing, which is 0 before, and the new mark, as the library and the reader
+/// both have them.
+fn gone_on(file: &[u8], mark: &[u8]) -> (u32, u64, u64, Vec<u8>) {
+    let sides: [WalkFrom; 2] = [ffi::hpcdb_meta_walk_from, by_reader::hpcdb_meta_walk_from];
+    let [by_library, by_reader] = sides.map(|walk_from| {
+        let (mut listing, mut table, mut new_mark, mut out) = ([0], vec![7; 70_001], [0; 805], [7]);
+        let code = walk_from(file, mark, 1, &mut listing, &mut table, &mut [], &mut new_mark, &mut out);
+        (code, out[0], listing[0], new_mark[..13].to_vec(), table)
+    });
+    assert_eq!(by_library, by_reader);
+    let (code, listed, place, new_mark, _) = by_reader;
+    (code, listed, place, new_mark)
+}
+
+/// Numbers among siblings have 32 bits, the length of a mark 16.
+#[test]
+fn marks_of_a_wide_tree() {
+    let file = wide_file();
+    let of_child = |number| bytes(&[(2, 13), (2, 1), (1, 2), (4, 0), (4, number)]);
+    let place = |number: u64| 232 + 24 * number;
+    for number in [0, 255, 256, 65_534, 65_535, 65_536, 69_998] {
+        assert_eq!(
+            gone_on(&file, &of_child(number)),
+            (if number == 69_998 { 0 } else { 101 }, 1, place(number + 1), of_child(number + 1))
+        );
+    }
+    assert_eq!(gone_on(&file, &of_child(69_999)), (0, 0, 0, of_child(69_999)));
+    for number in [70_000, 1 << 24, 1 << 31, u64::from(u32::MAX)] {
+        assert_eq!(gone_on(&file, &of_child(number)), (18, 0, 0, vec![0; 13]));
+    }
+    // modulo 2^16 their length is what they say
+    for mark in [of_child(5), bytes(&[(5, 0x1_0005)])] {
+        let longer = [mark, vec![0; 65_536]].concat();
+        assert_eq!(gone_on(&file, &longer), (18, 0, 0, vec![0; 13]));
+    }
 }
 
 /// Profile, context, metric and value, as the writer takes them; the bytes that are ignored are not 0.

@@ -1,5 +1,5 @@
 //! The reader over the repository's stored cases: it is to print what stands in each `stdout`. So are the writer and
-//! the library over the lists.
+//! the library over the lists, and the library over the marks.
 
 use std::fmt::Write as _;
 use std::fs;
@@ -202,6 +202,54 @@ fn walks() {
         printed += &format!("== {line}\n{}", shown_walk(&data("walk_cases", words[0]), number(1), number(2)));
     }
     assert_prints("walk_cases", printed.as_bytes());
+}
+
+type WalkFrom = fn(&[u8], &[u8], u64, &mut [u64], &mut [u64], &mut [u64], &mut [u8], &mut [u64; 1]) -> u32;
+
+/// What lent words and bytes hold before a walk from a mark.
+const BEFORE: u64 = 7;
+const BYTE_BEFORE: u8 = 255;
+
+/// Every word, and the bytes for the new mark up to the last that is not as it was.
+fn shown_walk_from(walk_from: WalkFrom, file: &[u8], mark: &[u8], asks: u64, rooms: [usize; 4]) -> String {
+    let [mut listing, mut table, mut records] = [rooms[0], rooms[1], rooms[2]].map(|room| vec![BEFORE; room]);
+    let (mut new_mark, mut out) = (vec![BYTE_BEFORE; rooms[3]], [0]);
+    let code = walk_from(file, mark, asks, &mut listing, &mut table, &mut records, &mut new_mark, &mut out);
+    let end = match code {
+        by_reader::ANSWERED => "whole".to_owned(),
+        by_reader::CUT => "cut".to_owned(),
+        refusal => format!("refused {refusal}"),
+    };
+    let mut shown = format!("{end} {}\n", out[0]);
+    for (name, words) in [("listing", listing), ("table", table), ("records", records)] {
+        let words: String = words.iter().map(|word| format!(" {word}")).collect();
+        writeln!(shown, "{name}{words}").expect("a String takes it");
+    }
+    let changed = new_mark.iter().rposition(|byte| *byte != BYTE_BEFORE).map_or(0, |last| last + 1);
+    let changed: String = new_mark[..changed].iter().map(|byte| format!("{byte:02x}")).collect();
+    shown + &format!("mark {changed}\n")
+}
+
+fn assert_goes_on(walk_from: WalkFrom) {
+    let mut printed = String::new();
+    for line in list("mark_cases") {
+        let words: Vec<&str> = line.split(' ').collect();
+        let number = |k: usize| words[k].parse().expect("the list has numbers");
+        let [file, mark] = [words[0], words[1]].map(|name| data("mark_cases", name));
+        let shown = shown_walk_from(walk_from, &file, &mark, number(2) as u64, [3, 4, 5, 6].map(number));
+        printed += &format!("== {line}\n{shown}");
+    }
+    assert_prints("mark_cases", printed.as_bytes());
+}
+
+#[test]
+fn marks_by_the_reader() {
+    assert_goes_on(by_reader::hpcdb_meta_walk_from);
+}
+
+#[test]
+fn marks_by_the_library() {
+    assert_goes_on(ffi::hpcdb_meta_walk_from);
 }
 
 fn shown_lookup(answer: Result<Option<u64>, Refusal>) -> String {

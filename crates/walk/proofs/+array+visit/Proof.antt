@@ -24,7 +24,8 @@ use Rattle.traversal.proofs.Walked.{the-type as walked-type}
 use Rattle.traversal.proofs.Steps.{takes-some}
 use Rattle.walk.specs.State.{Holds}
 use Rattle.walk.proofs.Going.{Going, going-start, going-10, going-end, going-on, going-stop}
-use Rattle.walk.proofs.Visits.{id-read, place-read, bytes-read, does-refused, does-cut, does-leaf, does-deep, safe}
+use Rattle.visit.proofs.Checks.{id-read, place-read, bytes-read, safe}
+use Rattle.walk.proofs.Visits.{does-refused, does-cut, does-leaf, does-deep}
 use Rattle.walk.proofs.Measure.{falls-in, falls-down}
 use borrow.Fn.Kinds.{In}
 use borrow.Fn.PlainCycle.{Measures, is, falls, and}
@@ -38,8 +39,8 @@ use Rattle.context.proofs.context_rule.Reads as context-rule-reads
 use Rattle.context.proofs.extent.Reads as extent-reads
 use Rattle.le.proofs.load_u32.Reads as load-u32-reads
 use Rattle.le.proofs.load_u64.Reads as load-u64-reads
-use Rattle.walk.proofs.put_record.Reads as put-record-reads
-use Rattle.walk.proofs.visit_check.Reads as visit-check-reads
+use Rattle.visit.proofs.put_record.Reads as put-record-reads
+use Rattle.visit.proofs.visit_check.Reads as visit-check-reads
 use Rattle.walk.proofs.+array+visit.{statement}
 use Rattle.walk.proofs.+array+visit.Tie.{close}
 
@@ -336,8 +337,7 @@ visit-slice-write-table t c =
     let file = now (args .file) in
     let t0 = targetsIn (now (args .targets)) in
     let s = slices (now (args .listing)) (now (args .table)) (now (args .records)) in
-    let kept = safe file t0 (args .depth) (args .p) (args .stop) (args .n) s (pre .1 .1)
-    (visit-check .result) (visit-check .ensures) (enum-told .given .1) in
+    let kept = safe file t0 (args .depth) (args .p) (s .table) (sym (visit-check .ensures) ∙ enum-told .given .1) in
     let id = id-read file (args .p) (load-u32 .result) (load-u32 .ensures) in
     omega (arith, kept .slot, id)
 
@@ -420,8 +420,7 @@ visit-add-end t c =
     let file = now (args .file) in
     let t0 = targetsIn (now (args .targets)) in
     let s = slices (now (args .listing)) (now (args .table)) (now (args .records)) in
-    let kept = safe file t0 (args .depth) (args .p) (args .stop) (args .n) s (pre .1 .1)
-    (visit-check .result) (visit-check .ensures) (enum-told .given .1) in
+    let kept = safe file t0 (args .depth) (args .p) (s .table) (sym (visit-check .ensures) ∙ enum-told .given .1) in
     let size = bytes-read file (args .p) (load-u64 .result) (load-u64 .ensures) in
     let place = place-read file (args .p) (load-u642 .result) (load-u642 .ensures) in
     let some : 0 < field file (args .p) childrenBytes = omega (arith, if2 .left, size) in
@@ -455,8 +454,7 @@ visit-array-requires t c κs =
     let file = now (args .file) in
     let t0 = targetsIn (now (args .targets)) in
     let s = slices (now (args .listing)) (now (args .table)) (now (args .records)) in
-    let kept = safe file t0 (args .depth) (args .p) (args .stop) (args .n) s (pre .1 .1)
-    (visit-check .result) (visit-check .ensures) (enum-told .given .1) in
+    let kept = safe file t0 (args .depth) (args .p) (s .table) (sym (visit-check .ensures) ∙ enum-told .given .1) in
     let ended = ends (now (args .file)) (args .p) (args .stop) (pre .1 .1) in
     let size = bytes-read file (args .p) (load-u64 .result) (load-u64 .ensures) in
     let place = place-read file (args .p) (load-u642 .result) (load-u642 .ensures) in

@@ -1,5 +1,4 @@
 -- By whether the file opens.
-use Rattle.traversal.specs.Walk.{slices}
 use Rattle.walk.proofs.Roots.{untouched}
 use Rattle.open.proofs.Answer.{told, told-passed}
 use Rattle.open.specs.Format.{meta}
@@ -22,7 +21,7 @@ returns-2 c =
     let check = c .before .check in
     let meta-sections = c .before .before .before .before .before .meta-sections in
     let check-meta = c .before .before .before .check-meta in
-    untouched (now (args .file)) (slices (now (args .listing)) (now (args .table)) (now (args .records))) (check .given .0 .0)
+    untouched (now (args .file)) (now (args .listing)) (now (args .table)) (now (args .records)) (check .given .0 .0)
     (sym (told meta _ (meta-sections .ensures) (check-meta .ensures)) ∙ check .given .1)
 
 pub records-spec : {M : Type 1} → statement M

@@ -1,5 +1,5 @@
 -- Records for which there is no room change nothing.
-use Rattle.walk.proofs.Roots.{no-records}
+use Rattle.traversal.proofs.Unmarked.{no-records}
 use borrow.Author.Needs.{needs}
 use Rattle.walk.proofs.walk.Statement.{statement}
 use Rattle.walk.proofs.walk.Tie as tie

@@ -1,7 +1,7 @@
 -- From the roots, if there are any.
 use Rattle.context.specs.Sound.{targetsIn}
-use Rattle.traversal.specs.Walk.{slices}
-use Rattle.walk.proofs.Roots.{no-roots, from-roots, roots-lie}
+use Rattle.visit.proofs.Lie.{roots-lie}
+use Rattle.walk.proofs.Roots.{no-roots, from-roots}
 use denote.Ref.{now}
 use native.Mathlib.Omega.{arith}
 use borrow.Author.Needs.{needs}
@@ -17,8 +17,9 @@ returns c =
     let u64-at = c .before .before .before .before .before .before .u64-at in
     let clear = c .before .before .before .clear in
     let if1 = c .if1 in
-    no-roots (now (args .file)) (slices (now (args .listing)) (now (args .table)) (now (args .records))) pre (targetsIn (targets-of .result))
-    (targets-of .ensures) (u64-at2 .result) (u64-at .result) (u64-at2 .ensures) (u64-at .ensures) (clear .last .0) (clear .ensures) (if1 .taken)
+    no-roots (now (args .file)) pre (targetsIn (targets-of .result))
+    (targets-of .ensures) (u64-at2 .result) (u64-at .result) (u64-at2 .ensures) (u64-at .ensures)
+    (now (args .listing)) (now (args .table)) (now (args .records)) (clear .last .0) (clear .ensures) (if1 .taken)
 
 add-end : tie.Need-add-end
 add-end c =
@@ -29,10 +30,9 @@ add-end c =
     let u64-at = c .before .before .before .before .before .before .u64-at in
     let if1 = c .if1 in
     let good = c .before .before .before .before .before .before .before .before .before .before .before .before .before .good in
-    let lent = slices (now (args .listing)) (now (args .table)) (now (args .records)) in
     omega (
       arith,
-      roots-lie (now (args .file)) lent pre (targetsIn (targets-of .result))
+      roots-lie (now (args .file)) pre (targetsIn (targets-of .result))
           (targets-of .ensures) (u64-at2 .result) (u64-at .result) (u64-at2 .ensures) (u64-at .ensures) (omega (arith, if1 .left)),
       good,
     )
@@ -47,8 +47,7 @@ array-requires c κs =
     let u64-at2 = c .before .before .before .before .before .before .before .before .before .u64-at2 in
     let u64-at = c .before .before .before .before .before .before .before .before .before .before .u64-at in
     let if1 = c .before .before .before .before .if1 in
-    let lent = slices (now (args .listing)) (now (args .table)) (now (args .records)) in
-    let lie = roots-lie (now (args .file)) lent pre (targetsIn (targets-of .result))
+    let lie = roots-lie (now (args .file)) pre (targetsIn (targets-of .result))
     (targets-of .ensures) (u64-at2 .result) (u64-at .result) (u64-at2 .ensures) (u64-at .ensures) (omega (arith, if1 .left)) in
     (lie .0, lie .1, lie .2, omega arith)
 
@@ -66,9 +65,10 @@ returns-2 c =
     .before .u64-at in
     let clear = c .before .before .before .before .before .before .before .before .before .before .before .before .before .before .clear in
     let array = c .before .before .before .before .before .before .array in
-    from-roots (now (args .file)) (slices (now (args .listing)) (now (args .table)) (now (args .records))) pre (targetsIn (targets-of .result))
-    (targets-of .ensures) (u64-at2 .result) (u64-at .result) (u64-at2 .ensures) (u64-at .ensures) (clear .last .0) (clear .ensures) (array .result)
-    (slices (array .last .1 .1 .1 .1 .1 .0) (array .last .1 .1 .1 .1 .1 .1 .0) (array .last .1 .1 .1 .1 .1 .1 .1 .0)) (array .ensures)
+    from-roots (now (args .file)) pre (targetsIn (targets-of .result))
+    (targets-of .ensures) (u64-at2 .result) (u64-at .result) (u64-at2 .ensures) (u64-at .ensures)
+    (now (args .listing)) (now (args .table)) (now (args .records)) (clear .last .0) (clear .ensures) (array .result)
+    (array .last .1 .1 .1 .1 .1 .0) (array .last .1 .1 .1 .1 .1 .1 .0) (array .last .1 .1 .1 .1 .1 .1 .1 .0) (array .ensures)
 
 pub walk-in-spec : {M : Type 1} → statement M
 walk-in-spec =

@@ -10,15 +10,17 @@ use std::process::ExitCode;
 
 use differential::by_reader::ANSWERED;
 use differential::compare::{compare, Reply};
-use differential::gen::{follow_ups, questions, specimen, Known, Rng, Specimen};
+use differential::gen::{follow_ups, parts, questions, specimen, Known, Rng, Specimen};
+use differential::joined::{self, Outcome};
 use differential::lent::LentFile;
 use differential::question::{Function, Question, Survey};
 use differential::read_back;
+use differential::reader::walk::MARK_ROOM;
 use differential::tally::Tally;
 use differential::writer::Lists;
 
 const SEED: u64 = 20_260_401;
-const CASES: u64 = 2_000_000;
+const CASES: u64 = 2_250_000;
 
 const USAGE: &str = "\
 differential [--seed S] [--cases N] [--counts]   compare over generated files; --counts shows what the run met
@@ -121,6 +123,7 @@ fn run_file(seed: u64, number: u64, tally: &mut Tally, aloud: bool) -> Result<()
         tally.add_case(question, &specimen, &reply);
         Ok::<Reply, String>(reply)
     };
+    let mut joins = Vec::new();
     for question in &first {
         let reply = ask(question, &file)?;
         if rng.one_in(2) {
@@ -131,8 +134,34 @@ fn run_file(seed: u64, number: u64, tally: &mut Tally, aloud: bool) -> Result<()
             let by = |failure| format!("{failure}\nin what was written by file {number}, {}", shown(question));
             ask_written(&question.survey.lists(file.bytes()), &reply, &mut ask).map_err(by)?;
         }
+        if hands_out_a_mark(question) && rng.one_in(4) {
+            let parts = parts(&mut rng, question.rooms[0]);
+            let outcome = ask_parts(question, &parts, |question| ask(question, &file))
+                .map_err(|failure| format!("{failure}\nin parts {parts:?} of file {number}, {}", shown(question)))?;
+            joins.push((parts, outcome));
+        }
     }
+    joins.iter().for_each(|(parts, outcome)| tally.add_joined(parts, outcome));
     Ok(())
+}
+
+/// Unless something else is refused.
+fn hands_out_a_mark(question: &Question) -> bool {
+    question.function == Function::MetaWalkFrom && question.numbers[0] != 0 && question.byte_room >= MARK_ROOM
+}
+
+/// Asks for a walk in parts and in one: library and reader agree, and the parts joined are the one walk.
+fn ask_parts(
+    question: &Question,
+    parts: &[usize],
+    mut ask: impl FnMut(&Question) -> Result<Reply, String>,
+) -> Result<Outcome, String> {
+    let joined = joined::outcome(question, parts, &mut ask)?;
+    let one = joined::outcome(question, &[parts.iter().sum()], &mut ask)?;
+    if joined != one {
+        return Err(format!("the parts give {joined:?}, one walk {one:?}"));
+    }
+    Ok(joined)
 }
 
 /// Reads a written file back: library and reader agree, and they say what the lists say.
@@ -169,7 +198,12 @@ fn shown(question: &Question) -> String {
         let Survey { profiles, tuples, identifiers } = &question.survey;
         return format!("{} {lent}, {profiles:?}, {tuples:?}, {} bytes of identifiers", row.name, identifiers.len());
     }
-    format!("{} {:?}, {lent}, pairs {:?}", row.name, &question.numbers[..row.numbers], question.pairs)
+    let read = if question.function == Function::MetaWalkFrom {
+        format!("mark {:?}", question.mark.bytes())
+    } else {
+        format!("pairs {:?}", question.pairs)
+    };
+    format!("{} {:?}, {lent}, {read}", row.name, &question.numbers[..row.numbers])
 }
 
 fn keep(bytes: &[u8]) -> io::Result<PathBuf> {

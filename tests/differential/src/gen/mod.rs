@@ -5,6 +5,7 @@ mod damage;
 mod image;
 pub mod large;
 mod lists;
+mod marks;
 mod meta;
 mod plan;
 mod questions;
@@ -12,7 +13,7 @@ mod rng;
 mod trace;
 mod tree;
 
-pub use questions::{follow_ups, questions};
+pub use questions::{follow_ups, parts, questions};
 pub use rng::Rng;
 
 use crate::question::Database;

@@ -4,7 +4,8 @@
 use std::iter;
 
 use super::rng::Rng;
-use super::{blocks, lists, meta, trace, Known, Specimen};
+use super::{blocks, lists, marks, meta, trace, Known, Specimen};
+use crate::lent::LentFile;
 use crate::question::Function::{self, *};
 use crate::question::{Database, Question, FUNCTIONS};
 use crate::reader::walk::RECORD_WORDS;
@@ -18,6 +19,8 @@ pub fn questions(rng: &mut Rng, specimen: &Specimen) -> Vec<Question> {
         // a written file is asked in its turn
         Known::Lists(_) => rng.between(1, if long { 2 } else { 6 }),
         _ if long => 6,
+        // more is asked of a meta.db
+        Known::Meta(_) => rng.between(10, 20),
         _ => rng.between(8, 16),
     };
     (0..count).map(|_| question(rng, specimen)).collect()
@@ -28,7 +31,7 @@ pub fn questions(rng: &mut Rng, specimen: &Specimen) -> Vec<Question> {
 pub fn follow_ups(question: &Question, code: u32, out: &[u64]) -> Vec<Question> {
     // 7 may be opening's too
     let within_the_tree = [7, 9, 10, 12, 13, 14].contains(&code);
-    if !within_the_tree || !matches!(question.function, MetaWalk | MetaRecords) {
+    if !within_the_tree || !matches!(question.function, MetaWalk | MetaRecords | MetaWalkFrom) {
         return Vec::new();
     }
     let listed = out[0] as usize;
@@ -39,7 +42,7 @@ pub fn follow_ups(question: &Question, code: u32, out: &[u64]) -> Vec<Question> 
 
 /// How often each function is asked of a file of its kind: those with more to find more often. The writer is asked of
 /// lists.
-const WEIGHTS: [(Function, usize); 29] = [
+const WEIGHTS: [(Function, usize); 30] = [
     (MetaOpen, 1),
     (MetaCounts, 1),
     (MetaTitle, 1),
@@ -53,6 +56,7 @@ const WEIGHTS: [(Function, usize); 29] = [
     (MetaFunction, 4),
     (MetaWalk, 5),
     (MetaRecords, 5),
+    (MetaWalkFrom, 8),
     (ProfileOpen, 1),
     (ProfileSections, 1),
     (ProfileTuple, 2),
@@ -84,7 +88,7 @@ fn question(rng: &mut Rng, specimen: &Specimen) -> Question {
         return stray_question(rng);
     }
     match &specimen.known {
-        Known::Meta(known) => meta_question(rng, known, specimen.focus),
+        Known::Meta(known) => meta_question(rng, known, specimen),
         Known::Blocks(known) => blocks_question(rng, specimen.database, known, specimen.focus),
         Known::Trace(known) => trace_question(rng, known, specimen.focus),
         Known::Lists(known) => write_question(rng, known),
@@ -99,6 +103,11 @@ fn stray_question(rng: &mut Rng) -> Question {
     match row.function {
         MetaWalk | MetaRecords => {
             question.rooms = [rng.below(5), rng.below(5), if row.function == MetaRecords { rng.below(30) } else { 0 }];
+        }
+        MetaWalkFrom => {
+            question.rooms = [rng.below(5), rng.below(5), rng.below(30)];
+            question.byte_room = rng.pick(&MARK_ROOMS);
+            question.mark = lent_mark(marks::any_bytes(rng), rng);
         }
         ProfileLookup | CctLookup => question.byte_room = rng.below(12),
         ProfileLookupMany | CctLookupMany => {
@@ -157,10 +166,11 @@ fn room(rng: &mut Rng, exact: usize) -> usize {
     }
 }
 
-fn meta_question(rng: &mut Rng, known: &meta::Known, focus: Option<usize>) -> Question {
+fn meta_question(rng: &mut Rng, known: &meta::Known, specimen: &Specimen) -> Question {
     let function = some_function(rng, Database::Meta);
-    let mut at = |count| position(rng, count, focus);
+    let mut at = |count| position(rng, count, specimen.focus);
     let numbers = match function {
+        MetaWalkFrom => [asks(rng), 0, 0],
         MetaIdName => [at(known.kinds), 0, 0],
         MetaModule => [at(known.modules), 0, 0],
         MetaFile => [at(known.files), 0, 0],
@@ -176,14 +186,47 @@ fn meta_question(rng: &mut Rng, known: &meta::Known, focus: Option<usize>) -> Qu
         _ => [0; 3],
     };
     let mut question = Question::new(function, numbers);
-    if matches!(function, MetaWalk | MetaRecords) {
+    if matches!(function, MetaWalk | MetaRecords | MetaWalkFrom) {
         let listing = room(rng, known.contexts);
         let slots = known.greatest_id as usize + 1;
         let table = if rng.one_in(3) { room(rng, slots) } else { slots + rng.below(3) };
-        let records = if function == MetaRecords { room_for_records(rng, known.contexts) } else { 0 };
+        let records = if function == MetaWalk { 0 } else { room_for_records(rng, known.contexts) };
         question.rooms = [listing, table, records];
     }
+    if function == MetaWalkFrom {
+        if rng.one_in(2) {
+            question.rooms[0] = rng.below(4);
+        }
+        question.byte_room = rng.pick(&MARK_ROOMS);
+        question.mark = lent_mark(marks::mark(rng, &specimen.bytes, known), rng);
+    }
     question
+}
+
+/// Bytes lent for a new mark: mostly enough.
+const MARK_ROOMS: [usize; 12] = [805, 805, 805, 805, 805, 805, 806, 1700, 804, 804, 13, 0];
+
+/// Any number but 0 asks for a new mark.
+fn asks(rng: &mut Rng) -> u64 {
+    match rng.below(8) {
+        0..2 => 0,
+        2 => rng.edge(),
+        _ => 1,
+    }
+}
+
+fn lent_mark(mark: Vec<u8>, rng: &mut Rng) -> LentFile {
+    LentFile::new(mark, rng.below(4), rng.pick(&[0, 1, 0xff]))
+}
+
+/// Room in two to four parts, some of them of none.
+pub fn parts(rng: &mut Rng, room: usize) -> Vec<usize> {
+    let count = rng.between(1, 3);
+    let mut ends: Vec<usize> = (0..count).map(|_| if rng.one_in(4) { 0 } else { rng.below(room + 1) }).collect();
+    ends.push(room);
+    ends.sort_unstable();
+    let starts = iter::once(0).chain(ends.iter().copied());
+    starts.zip(&ends).map(|(start, end)| end - start).collect()
 }
 
 /// Also room for a part of a record.

@@ -1,5 +1,5 @@
-//! An independent reader of HPCToolkit 4.0 databases in plain safe Rust, written from document 01 (the rules) and
-//! document 004 (the format) alone. Every function takes the bytes of a file and opens them afresh.
+//! An independent reader of HPCToolkit 4.0 databases in plain safe Rust, written from documents 01 (the rules), 02
+//! (requests that change them) and 004 (the format) alone. Every function takes the bytes of a file and opens them afresh.
 
 pub mod cct;
 pub mod meta;
@@ -37,6 +37,7 @@ pub enum Refusal {
     Index,
     NotFinite,
     Room,
+    Mark,
 }
 
 impl Refusal {

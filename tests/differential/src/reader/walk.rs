@@ -2,7 +2,7 @@
 
 use std::slice;
 
-use super::bytes::{u32_at, u64_at, Span};
+use super::bytes::{u16_at, u32_at, u64_at, Span};
 use super::meta::{context_array, Meta};
 use super::opening::Array;
 use super::Refusal;
@@ -74,48 +74,186 @@ impl Keep for Records<'_> {
     }
 }
 
+fn refused(refusal: Refusal) -> Walked {
+    Walked { end: End::Refused(refusal), listed: 0 }
+}
+
 fn walk_keeping(file: &[u8], listing: &mut [u64], table: &mut [u64], mut kept: impl Keep) -> Walked {
     let meta = match Meta::open(file) {
         Ok(meta) => meta,
-        Err(refusal) => return Walked { end: End::Refused(refusal), listed: 0 },
+        Err(refusal) => return refused(refusal),
     };
     table.fill(0);
+    follow(&mut Trail::of(&meta), listing, table, &mut kept)
+}
+
+/// Follows the trail until it ends or its next context has no word in the listing.
+#[inline(always)]
+fn follow(trail: &mut Trail, listing: &mut [u64], table: &mut [u64], kept: &mut impl Keep) -> Walked {
     let mut listed = 0;
-    let end = follow(&meta, listing, table, &mut listed, &mut kept);
+    let end = loop {
+        let visited = match trail.next(table) {
+            Ok(Some(visited)) => visited,
+            Ok(None) => break End::Whole,
+            Err(refusal) => break End::Refused(refusal),
+        };
+        let Some(word) = listing.get_mut(listed) else {
+            break End::Cut;
+        };
+        *word = visited.place as u64;
+        *visited.slot = visited.place as u64;
+        kept.keep(visited.place, visited.depth, &visited.context);
+        listed += 1;
+    };
     Walked { end, listed }
 }
 
-/// Follows the trail until it ends or its next context has no word in the listing. Of the arrays from the roots to the
-/// current one, `rest` has what is yet to be visited.
-fn follow(meta: &Meta, listing: &mut [u64], table: &mut [u64], listed: &mut usize, kept: &mut impl Keep) -> End {
-    let mut rest = [Span::default(); DEEPEST + 1];
-    rest[0] = meta.roots;
-    let mut level = 0;
-    loop {
-        while rest[level].start == rest[level].end {
-            if level == 0 {
-                return End::Whole;
+/// The way down to where a walk stands.
+struct Trail<'m> {
+    meta: &'m Meta<'m>,
+    /// of the arrays from the roots to the current one, what is yet to be visited
+    rest: [Span; DEEPEST + 1],
+    level: usize,
+}
+
+/// A context that kept its rules, and its slot of the table, which is still 0.
+struct Visited<'t> {
+    place: usize,
+    depth: usize,
+    context: Context,
+    slot: &'t mut u64,
+}
+
+impl<'m> Trail<'m> {
+    fn of(meta: &'m Meta<'m>) -> Trail<'m> {
+        let mut rest = [Span::default(); DEEPEST + 1];
+        rest[0] = meta.roots;
+        Trail { meta, rest, level: 0 }
+    }
+
+    /// Goes on to the next context; there is none if the trail ends whole.
+    #[inline(always)]
+    fn next<'t>(&mut self, table: &'t mut [u64]) -> Result<Option<Visited<'t>>, Refusal> {
+        while self.rest[self.level].start == self.rest[self.level].end {
+            if self.level == 0 {
+                return Ok(None);
             }
-            level -= 1;
+            self.level -= 1;
         }
-        let (context, slot) = match visit(meta, rest[level], level + 1, table) {
-            Ok(visited) => visited,
-            Err(refusal) => return End::Refused(refusal),
-        };
-        let Some(word) = listing.get_mut(*listed) else {
-            return End::Cut;
-        };
-        let place = rest[level].start;
-        *word = place as u64;
-        *slot = place as u64;
-        kept.keep(place, level + 1, &context);
-        *listed += 1;
-        rest[level].start += context.size;
+        let (place, depth) = (self.rest[self.level].start, self.level + 1);
+        let (context, slot) = visit(self.meta, self.rest[self.level], depth, table)?;
+        self.rest[self.level].start += context.size;
         if context.children.size() > 0 {
-            level += 1;
-            rest[level] = context.children;
+            self.level += 1;
+            self.rest[self.level] = context.children;
+        }
+        Ok(Some(Visited { place, depth, context, slot }))
+    }
+}
+
+/// Bytes of a mark before its numbers, and of the longest one: as many are lent for a new mark.
+const MARK_HEAD: usize = 5;
+pub const MARK_ROOM: usize = MARK_HEAD + 4 * DEEPEST;
+const MARK_KIND: u16 = 1;
+
+/// Where a walk is: for each level from the roots down to a context, its number among its siblings. None is before the
+/// first root.
+#[derive(Clone, PartialEq, Eq, Default, Debug)]
+pub struct Path(pub Vec<u32>);
+
+impl Path {
+    /// What a mark names; no bytes are a mark too.
+    pub fn of_mark(mark: &[u8]) -> Result<Path, Refusal> {
+        if mark.is_empty() {
+            return Ok(Path::default());
+        }
+        let (head, numbers) = mark.split_first_chunk::<MARK_HEAD>().ok_or(Refusal::Mark)?;
+        let depth = usize::from(head[4]);
+        let sound = usize::from(u16_at(head, 0)) == mark.len()
+            && numbers.len() == 4 * depth
+            && u16_at(head, 2) == MARK_KIND
+            && depth <= DEEPEST;
+        if !sound {
+            return Err(Refusal::Mark);
+        }
+        Ok(Path(numbers.as_chunks().0.iter().map(|number| u32::from_le_bytes(*number)).collect()))
+    }
+
+    pub fn mark(&self) -> Vec<u8> {
+        let length = MARK_HEAD + 4 * self.0.len();
+        let mut mark = Vec::with_capacity(length);
+        mark.extend((length as u16).to_le_bytes());
+        mark.extend(MARK_KIND.to_le_bytes());
+        mark.push(self.0.len() as u8);
+        mark.extend(self.0.iter().flat_map(|number| number.to_le_bytes()));
+        mark
+    }
+
+    /// Goes on to the next context of a trail, which has this depth.
+    #[inline]
+    fn step(&mut self, depth: usize) {
+        self.0.truncate(depth);
+        match self.0.get_mut(depth - 1) {
+            Some(number) => *number += 1,
+            None => self.0.push(0),
         }
     }
+}
+
+/// Records, and the path of the last context.
+struct RecordsAndPath<'a> {
+    records: Records<'a>,
+    path: Path,
+}
+
+impl Keep for RecordsAndPath<'_> {
+    fn keep(&mut self, place: usize, depth: usize, context: &Context) {
+        self.records.keep(place, depth, context);
+        self.path.step(depth);
+    }
+}
+
+/// As the walk with records, but it lists what comes after the context that a mark names; if `new_mark` is lent, the
+/// first of its bytes become the mark of the last context listed or, if none is, the given one.
+pub fn walk_from(
+    file: &[u8],
+    mark: &[u8],
+    listing: &mut [u64],
+    table: &mut [u64],
+    records: &mut [u64],
+    new_mark: Option<&mut [u8]>,
+) -> Walked {
+    if new_mark.as_ref().is_some_and(|lent| lent.len() < MARK_ROOM) {
+        return refused(Refusal::Room);
+    }
+    let (meta, given) = match Meta::open(file).and_then(|meta| Ok((meta, Path::of_mark(mark)?))) {
+        Ok(opened) => opened,
+        Err(refusal) => return refused(refusal),
+    };
+    table.fill(0);
+    let mut trail = Trail::of(&meta);
+    if let Err(refusal) = pass(&mut trail, &given, table) {
+        table.fill(0);
+        return refused(refusal);
+    }
+    let mut kept = RecordsAndPath { records: Records(records.as_chunks_mut().0.iter_mut()), path: given };
+    let walked = follow(&mut trail, listing, table, &mut kept);
+    if let Some(lent) = new_mark {
+        let mark = kept.path.mark();
+        lent[..mark.len()].copy_from_slice(&mark);
+    }
+    walked
+}
+
+/// Follows the trail up to a context that is to be passed, and fills the table on the way.
+fn pass(trail: &mut Trail, given: &Path, table: &mut [u64]) -> Result<(), Refusal> {
+    let mut path = Path::default();
+    while path != *given {
+        let visited = trail.next(table)?.ok_or(Refusal::Mark)?;
+        *visited.slot = visited.place as u64;
+        path.step(visited.depth);
+    }
+    Ok(())
 }
 
 struct Context {

@@ -1,0 +1,403 @@
+-- A walk that keeps its way down in words: what is left of it is the rest of each array on the way, the deepest first. The frames' numbers
+-- and the contexts so far stand in no word; they say what the words are.
+use Prim.Native.Nat.{ℕ, suc, _+_, _-_, _≤_, _<_}
+use mathlib.Core.Bool.{Bool, true, false, _&&_}
+use mathlib.Core.List.{List, [], _∷_}
+use mathlib.Core.Path.{_≡_, refl, sym, ap, ap₂, _∙_}
+use native.Mathlib.Omega.{arith}
+use native.Mathlib.Nat.{not-suc-le-zero}
+use borrow.Author.Tests.{le-leb, leb-true, leb-false}
+use lib.Dec.{eqb, leb}
+use lib.ListN.{length, getD, set, length-append}
+use Rattle.refusal.specs.declared.Refusal.{Refusal}
+use Rattle.refusal.specs.declared.Refusal.the-variants as No
+use Rattle.refusal.specs.declared.Check.{Check}
+use Rattle.refusal.specs.declared.Check.the-variants as Check
+use Rattle.refusal.specs.Check.{either, rule, first, ifPassed}
+use Rattle.layout.specs.Stands.{starts}
+use Rattle.open.specs.Opening.{field}
+use Rattle.context.specs.Context.{Targets, childrenPlace, childrenBytes, ctxId, extent, contextRule}
+use Rattle.open.specs.Kept.{ContextsKept}
+use Rattle.context.specs.Entry.{Entry, entryAt}
+use Rattle.context.specs.Sound.{Readable}
+use Rattle.context.proofs.Laws.{ends, readable}
+use Rattle.traversal.specs.declared.Walked.{Walked}
+use Rattle.traversal.specs.declared.Walked.the-variants.{Complete, Truncated, Refused}
+use Rattle.traversal.specs.Traversal.{Marks, Outcome, on, cut, refused, listOf, Parameters, visitCheck, depthLimit, Down, visit, bind, level}
+use Rattle.traversal.specs.From.{samePath, lastPath, marksFrom, limitedFrom}
+use Rattle.traversal.specs.Walk.{Slices, slices}
+use Rattle.traversal.proofs.Keeps.{snoc}
+use Rattle.traversal.proofs.Steps.{same-bind, rest, rest-end, rest-step, level-rest, visit-refused, visit-10, visit-cut, visit-on}
+use Rattle.traversal.proofs.Passing.{same-step}
+use Rattle.seek.specs.declared.Seek.{Seek}
+use Rattle.seek.specs.Seek.{seek, leadsTo, passedBy, entered, left, Seeks}
+use Rattle.seek.proofs.Matching.{seeks-start, seeks-leads, seeks-by, seeks-into, seeks-back, seeks-small}
+use Rattle.visit.specs.Visit.{checksAfter10}
+use Rattle.visit.proofs.Checks.{judged, safe}
+use Rattle.resume.specs.Way.{siblingPlace, WayTo, childrenEnd, endBelow, nextBelow, Lies, LiesBelow}
+use Rattle.resume.specs.State.{Holds, countedEnd, Ended, askedWith, verdict, marksMore, listingMore, RecordMore}
+use Rattle.resume.proofs.Places.{sibling-first, sibling-next, sibling-small}
+use Rattle.resume.proofs.Slices.{long, recounted, one-more}
+use Rattle.resume.proofs.Frames.{Frame, frame, upsOf, parentOf, arrayStart, arrayEnd, WayStands, AllLie, Numbered, ups-length, below-end, below-lies, end-inside, leads-to, numbers-below, noted-above, noted-stands, noted-depth}
+
+-- ---- what follows
+
+bind-assoc : (o : Outcome) (K R : List Entry → Outcome) → bind (bind o K) R ≡ bind o (λ m. bind (K m) R)
+unfolding bind
+bind-assoc (on l) K R = refl
+bind-assoc (cut l) K R = refl
+bind-assoc (refused v l) K R = refl
+
+bind-on : (o : Outcome) → o ≡ bind o (λ m. on m)
+unfolding bind
+bind-on (on l) = refl
+bind-on (cut l) = refl
+bind-on (refused v l) = refl
+
+bind-at : (l : List Entry) (K : List Entry → Outcome) → bind (on l) K ≡ K l
+unfolding bind
+bind-at l K = refl
+
+bind-cut : (l : List Entry) (K : List Entry → Outcome) → bind (cut l) K ≡ cut l
+unfolding bind
+bind-cut l K = refl
+
+bind-refused : (r : Refusal) (l : List Entry) (K : List Entry → Outcome) → bind (refused r l) K ≡ refused r l
+unfolding bind
+bind-refused r l K = refl
+
+-- ---- what is left
+
+-- the contexts from p to e, below those on the way
+abbrev pub part : Parameters → List Frame → (i p e : ℕ) → List Entry → Outcome
+part E frames i p e l = rest E (level E (depthLimit - length frames)) (parentOf frames) (upsOf frames) i p e l
+
+-- after an array is done: the rest of each array on the way
+unfoldable pub rests : Parameters → (stop : ℕ) → List Frame → List Entry → Outcome
+rests E stop [] l = on l
+rests E stop (x ∷ frames) l =
+    bind (part E frames (suc (x .number)) (x .place + extent (E .asked .file) (x .place)) (arrayEnd (E .asked .file) stop frames) l) (rests E stop frames)
+
+-- the path of the last context is that of the one that came last
+last-snoc : (path : List ℕ) (l : List Entry) (e : Entry) → lastPath path (snoc l e) ≡ e .path
+unfolding lastPath
+last-snoc path [] e = refl
+last-snoc path (x ∷ l) e = last-snoc (x .path) l e
+
+-- the walk goes on to the context at p
+pub record Goes (file : List ℕ) (t : Targets) (s : Slices) (up p e k : ℕ) : Type 0 where
+  pub fine-here : contextRule file p e ≡ true
+  pub passes : checksAfter10 file t (up + 1) p (s .table) ≡ Check.Passed
+  pub fits : k ≤ length (s .listing)
+
+-- what the code needs of such a context
+pub record Sound (file : List ℕ) (s : Slices) (up p : ℕ) : Type 0 where
+  pub reads : p + extent file p ≤ length file
+  pub can : Readable file p
+  pub lies : Lies file p
+  pub slot : field file p ctxId < length (s .table)
+  pub fresh : getD (s .table) (field file p ctxId) 0 ≡ 0
+  pub deeper : up + 1 ≤ depthLimit
+  pub children : 0 < field file p childrenBytes → (0 < field file p childrenPlace) × (childrenEnd file p ≤ length file)
+
+module _ (file : List ℕ) (t : Targets) (path : List ℕ) (was : Slices) (at stop : ℕ) (m : Marks) (bytes : ℕ) where
+  abbrev E : Parameters
+  E = limitedFrom path (askedWith file was m bytes) t
+
+  abbrev all : Outcome
+  all = level E (suc depthLimit) 0 [] at stop []
+
+  -- at each turn of the loop
+  pub record Flat (s : Slices) (way : List ℕ) (up p e k : ℕ) (sk : Seek) : Type 0 where
+    pub so : List Entry
+    pub frames : List Frame
+    pub i : ℕ
+    pub holds : Holds path was so s k
+    pub deep : up ≡ length frames
+    pub shallow : up ≤ depthLimit
+    pub stands : WayStands way frames
+    pub lie : AllLie file frames
+    pub numbered : Numbered file at frames
+    pub here : p ≡ siblingPlace file (arrayStart file at frames) i
+    pub ends-at : e ≡ arrayEnd file stop frames
+    pub seeks : Seeks path (upsOf frames) i sk
+    pub last : WayTo file at (lastPath [] so) way
+    pub same : all ≡ bind (part E frames i p e so) (rests E stop frames)
+
+  pub flat-start : (s : Slices) (way : List ℕ) (k : ℕ) → Holds path was [] s k → getD way 0 0 ≡ 0 → Flat s way 0 at stop k (seek 0 0)
+  unfolding rests lastPath
+  flat-start s way k h z = record {
+    so = [];
+    frames = [];
+    i = 0;
+    holds = h;
+    deep = refl;
+    shallow = omega arith;
+    stands = tt;
+    lie = tt;
+    numbered = tt;
+    here = sym (sibling-first file at);
+    ends-at = refl;
+    seeks = seeks-start path;
+    last = record { depth = z; stands = λ k q. absurd (not-suc-le-zero q); lie = λ k q. absurd (not-suc-le-zero q) };
+    same = level-rest E depthLimit 0 [] at stop [] ∙ bind-on (part E [] 0 at stop []);
+  }
+
+  module _ (s : Slices) (way : List ℕ) (up p e k : ℕ) (sk : Seek) (g : Flat s way up p e k sk) where
+    pub inside : stop ≤ length file → e ≤ length file
+    inside h = omega (arith, g .ends-at, end-inside file stop (g .frames) (g .lie) h)
+
+    -- what is seen is no more than the siblings before p, or those of a context on the way
+    pub seen-small : p ≤ length file → sk .seen ≤ length file
+    seen-small h =
+        seeks-small path (upsOf (g .frames)) (g .i) sk (g .seeks) (length file)
+        (omega (arith, g .here, sibling-small file (arrayStart file at (g .frames)) (g .i))) (numbers-below file at (g .frames) (g .numbered) (g .lie))
+
+    abbrev rest-of : List Entry → Outcome
+    rest-of = rests E stop (g .frames)
+
+    -- the walk has ended with the contexts so far
+    ended : (o : Outcome) (r : Walked) → all ≡ o → listOf o ≡ g .so → r ≡ countedEnd path o → Ended file at path was all r s way
+    ended o r w l q = rw w (record {
+      holds = rw l (recounted (g .holds));
+      says = q;
+      last = rw l (g .last);
+    })
+
+    -- ---- the array is done
+
+    popped : e ≤ p → all ≡ rest-of (g .so)
+    popped h =
+        g .same
+        ∙ ap (λ (o : Outcome). bind o rest-of) (rest-end E (level E (depthLimit - length (g .frames))) (parentOf (g .frames)) (upsOf (g .frames)) (g .i) p e (g .so) h)
+        ∙ bind-at (g .so) rest-of
+
+    pub flat-whole : e ≤ p → up ≡ 0 → Ended file at path was all (Complete k) s way
+    unfolding rests countedEnd
+    flat-whole h z = ended (on (g .so)) (Complete k) (go (g .frames) (g .deep) (popped h)) refl (ap Complete (g .holds .counted))
+      where
+        go : (frames : List Frame) → up ≡ length frames → all ≡ rests E stop frames (g .so) → all ≡ on (g .so)
+        go [] d r = r
+        go (x ∷ frames) d r = absurd (omega arith)
+
+    -- back to the context that led into it
+    pub record Popped (u : ℕ) : Type 0 where
+      pub lies : LiesBelow file way (suc u)
+      pub above : LiesBelow file way u
+      pub next : (p' e' : ℕ) (sk' : Seek) → p' ≡ nextBelow file way u → e' ≡ endBelow file stop way u → sk' ≡ left path sk u → Flat s way u p' e' k sk'
+
+    pub flat-pop : e ≤ p → (up ≡ 0 → ⊥) → Popped (up - 1)
+    unfolding rests
+    flat-pop h z = go (g .frames) (g .deep) (g .stands) (g .lie) (g .numbered) (g .seeks) (popped h)
+      where
+        go : (frames : List Frame) → up ≡ length frames → WayStands way frames → AllLie file frames → Numbered file at frames
+            → Seeks path (upsOf frames) (g .i) sk → all ≡ rests E stop frames (g .so) → Popped (up - 1)
+        go [] d st al nu se r = absurd (z d)
+        go (x ∷ frames) d st al nu se r =
+            let less : up - 1 ≡ length frames = omega arith in
+            rw less (record {
+              lies = rw (st .0) (al .0);
+              above = below-lies file way frames (st .1) (al .1);
+              next = λ p' e' sk' ep ee es.
+                  let there : e' ≡ arrayEnd file stop frames = ee ∙ below-end file stop way frames (st .1) in
+                  let beside : p' ≡ x .place + extent file (x .place) = ep ∙ rw (st .0) in
+                  record {
+                    so = g .so;
+                    frames = frames;
+                    i = suc (x .number);
+                    holds = g .holds;
+                    deep = refl;
+                    shallow = omega (arith, g .shallow);
+                    stands = st .1;
+                    lie = al .1;
+                    numbered = nu .1;
+                    here = beside ∙ ap (λ (q : ℕ). q + extent file q) (nu .0) ∙ sym (sibling-next file (arrayStart file at frames) (x .number));
+                    ends-at = there;
+                    seeks = rw (es, ← ups-length frames) (seeks-back path (upsOf frames) (x .number) (g .i) sk se);
+                    last = g .last;
+                    same = rw (beside, there) r;
+                  };
+            })
+
+    -- ---- a context is visited
+
+    module _ (h : p < e) where
+      abbrev down : Down
+      down = level E (depthLimit - length (g .frames))
+
+      abbrev path-here : List ℕ
+      path-here = snoc (upsOf (g .frames)) (g .i)
+
+      abbrev then : List Entry → Outcome
+      then l = bind (part E (g .frames) (suc (g .i)) (p + extent file p) e l) rest-of
+
+      here-length : length path-here ≡ up + 1
+      here-length = omega (arith, length-append (upsOf (g .frames)) (g .i ∷ []), ups-length (g .frames), g .deep)
+
+      at-visit : all ≡ bind (visit E down (parentOf (g .frames)) path-here p e (g .so)) then
+      at-visit =
+          g .same
+          ∙ ap (λ (o : Outcome). bind o rest-of) (rest-step E down (parentOf (g .frames)) (upsOf (g .frames)) (g .i) p e (g .so) h)
+          ∙ bind-assoc (visit E down (parentOf (g .frames)) path-here p e (g .so)) _ rest-of
+
+      -- what the verdict goes by
+      abbrev fine : Bool
+      fine = contextRule file p e
+
+      abbrev checks : Check
+      checks = checksAfter10 file t (up + 1) p (s .table)
+
+      room : leb (marksFrom path (g .so)) (length (was .listing)) ≡ leb k (length (s .listing))
+      room = ap₂ leb (sym (g .holds .counted)) (sym (long (g .holds)))
+
+      checked : fine ≡ true → visitCheck E path-here p e (g .so) ≡ checks
+      checked f = judged E (g .so) (s .table) (g .holds .filled) (g .holds .placed) path-here (up + 1) p e here-length f
+
+      refused-by : (r : Refusal) → visit E down (parentOf (g .frames)) path-here p e (g .so) ≡ refused r (g .so)
+          → Ended file at path was all (Refused r k) s way
+      unfolding countedEnd
+      refused-by r v =
+          ended (refused r (g .so)) (Refused r k) (at-visit ∙ ap (λ (o : Outcome). bind o then) v ∙ bind-refused r (g .so) then) refl
+          (ap (Refused r) (g .holds .counted))
+
+      cut-by : visit E down (parentOf (g .frames)) path-here p e (g .so) ≡ cut (g .so) → Ended file at path was all (Truncated k) s way
+      unfolding countedEnd
+      cut-by v =
+          ended (cut (g .so)) (Truncated k) (at-visit ∙ ap (λ (o : Outcome). bind o then) v ∙ bind-cut (g .so) then) refl
+          (ap Truncated (g .holds .counted))
+
+      -- it does not go on
+      pub flat-stops : (r : Walked) → r ≡ verdict file t (up + 1) p e (s .table) (length (s .listing)) k → ((j : ℕ) → r ≡ Complete j → ⊥)
+          → Ended file at path was all r s way
+      unfolding verdict first rule ifPassed either
+      flat-stops r v z = go fine refl checks refl (leb k (length (s .listing))) refl v
+        where
+          go : (a : Bool) → fine ≡ a → (c : Check) → checks ≡ c → (b : Bool) → leb k (length (s .listing)) ≡ b
+              → r ≡ ifPassed (λ v. Refused v k) (first (rule a No.Context) c) (either b (Complete k) (Truncated k)) → Ended file at path was all r s way
+          go false ea c ec b eb q = rw q (refused-by No.Context (visit-10 E down (parentOf (g .frames)) path-here p e (g .so) ea))
+          go true ea (Check.Refused v) ec b eb q =
+              rw q (refused-by v (visit-refused E down (parentOf (g .frames)) path-here p e (g .so) v (checked ea ∙ ec)))
+          go true ea Check.Passed ec true eb q = absurd (z k q)
+          go true ea Check.Passed ec false eb q =
+              rw q (cut-by (visit-cut E down (parentOf (g .frames)) path-here p e (g .so) (checked ea ∙ ec) (room ∙ eb)))
+
+      -- it goes on
+      pub flat-goes : (r : Walked) (j : ℕ) → r ≡ verdict file t (up + 1) p e (s .table) (length (s .listing)) k → r ≡ Complete j → Goes file t s up p e k
+      unfolding verdict first rule ifPassed either
+      flat-goes r j v z = go fine refl checks refl (leb k (length (s .listing))) refl (sym v ∙ z)
+        where
+          go : (a : Bool) → fine ≡ a → (c : Check) → checks ≡ c → (b : Bool) → leb k (length (s .listing)) ≡ b
+              → ifPassed (λ v. Refused v k) (first (rule a No.Context) c) (either b (Complete k) (Truncated k)) ≡ Complete j → Goes file t s up p e k
+          go false ea c ec b eb q = absurd (let y : _≡_ {A = ℕ} 0 1 = cc in omega arith)
+          go true ea (Check.Refused v) ec b eb q = absurd (let y : _≡_ {A = ℕ} 0 1 = cc in omega arith)
+          go true ea Check.Passed ec false eb q = absurd (let y : _≡_ {A = ℕ} 0 1 = cc in omega arith)
+          go true ea Check.Passed ec true eb q = record { fine-here = ea; passes = ec; fits = leb-true k (length (s .listing)) eb }
+
+      pub flat-sound : stop ≤ length file → t .at + t .size ≤ length file → Goes file t s up p e k → Sound file s up p
+      flat-sound a b goes =
+          let kept = safe file t (up + 1) p (s .table) (goes .passes) in
+          let ended = ends file p e (goes .fine-here) in
+          let end = inside a in
+          record {
+            reads = omega (arith, ended .1);
+            can = readable file p e (goes .fine-here) end;
+            lies = record { itself = omega (arith, ended .1); children = go (leb 1 (field file p childrenBytes)) refl (kept .children) };
+            slot = kept .slot;
+            fresh = kept .fresh;
+            deeper = kept .shallow;
+            children = λ some. (omega (arith, kept .children .after some), omega (arith, kept .children .inside some));
+          }
+        where
+          go : (c : Bool) → leb 1 (field file p childrenBytes) ≡ c
+              → ContextsKept (t .at) 16 (t .size) (field file p childrenPlace) (field file p childrenBytes) → childrenEnd file p ≤ length file
+          go true l x = omega (arith, x .inside (leb-true 1 (field file p childrenBytes) l))
+          go false l x =
+              let none : field file p childrenBytes ≡ 0 = omega (arith, leb-false 1 (field file p childrenBytes) l) in
+              omega (arith, x .no-bytes none)
+
+      module _ (goes : Goes file t s up p e k) (leads found : Bool) (el : leads ≡ leadsTo path sk up) (ef : found ≡ leads && eqb (length path) (up + 1))
+          (records : List ℕ) (put : RecordMore file p (up + 1) k (s .records) records) (y : 0 < p) (w : suc up < length way) where
+        abbrev visited : Slices
+        visited = slices (listingMore k p (s .listing)) (set (s .table) (field file p ctxId) p) records
+
+        abbrev noted : List ℕ
+        noted = set (set way 0 (up + 1)) (up + 1) p
+
+        abbrev with : List Entry
+        with = snoc (g .so) (entryAt file (parentOf (g .frames)) path-here p)
+
+        -- whether it leads to the mark's context, and whether it is that
+        leads-here : leads ≡ starts path-here path
+        leads-here =
+            el ∙ ap (leadsTo path sk) (g .deep ∙ sym (ups-length (g .frames))) ∙ seeks-leads path (upsOf (g .frames)) (g .i) sk (g .seeks)
+
+        found-here : found ≡ samePath path path-here
+        found-here = ef ∙ ap₂ (λ (a : Bool) (n : ℕ). a && eqb (length path) n) leads-here (sym here-length) ∙ sym (same-step path path-here)
+
+        held : Holds path was with visited (marksMore k found)
+        held = one-more (g .holds) file (parentOf (g .frames)) path-here p (up + 1) y here-length found found-here records put
+
+        on-visit : visit E down (parentOf (g .frames)) path-here p e (g .so)
+            ≡ part E (frame p (g .i) ∷ g .frames) 0 (field file p childrenPlace) (childrenEnd file p) with
+        on-visit =
+            let kept = safe file t (up + 1) p (s .table) (goes .passes) in
+            let less : depthLimit - length (g .frames) ≡ suc (depthLimit - suc (length (g .frames))) = omega (arith, kept .shallow, g .deep) in
+            visit-on E down (parentOf (g .frames)) path-here p e (g .so) (checked (goes .fine-here) ∙ goes .passes)
+            (room ∙ le-leb k (length (s .listing)) (goes .fits))
+            ∙ rw less (level-rest E (depthLimit - suc (length (g .frames))) p path-here (field file p childrenPlace) (childrenEnd file p) with)
+
+        last-here : Lies file p → WayTo file at (lastPath [] with) noted
+        unfolding entryAt
+        last-here lies =
+            rw (last-snoc [] (g .so) (entryAt file (parentOf (g .frames)) path-here p))
+            (leads-to file at noted (frame p (g .i) ∷ g .frames) (noted-stands file at way up p (g .frames) (g .deep) w (g .stands) (g .i))
+            (g .here, g .numbered) (lies, g .lie) (noted-depth file at way up p (g .frames) (g .deep) w))
+
+        -- without children
+        pub flat-leaf : Lies file p → (r size : ℕ) (sk' : Seek) → r ≡ extent file p → size ≡ field file p childrenBytes → size ≡ 0 → sk' ≡ passedBy sk up
+            → Flat visited noted up (p + r) e (marksMore k found) sk'
+        flat-leaf lies r size sk' er eb z es = record {
+          so = with;
+          frames = g .frames;
+          i = suc (g .i);
+          holds = held;
+          deep = g .deep;
+          shallow = g .shallow;
+          stands = noted-above file at way up p (g .frames) (g .deep) w (g .stands);
+          lie = g .lie;
+          numbered = g .numbered;
+          here = rw er (ap (λ (q : ℕ). q + extent file q) (g .here) ∙ sym (sibling-next file (arrayStart file at (g .frames)) (g .i)));
+          ends-at = g .ends-at;
+          seeks = rw (es, g .deep, ← ups-length (g .frames)) (seeks-by path (upsOf (g .frames)) (g .i) sk (g .seeks));
+          last = last-here lies;
+          same = rw er (at-visit ∙ ap (λ (o : Outcome). bind o then) (on-visit ∙ none) ∙ bind-at with then);
+        }
+          where
+            none : part E (frame p (g .i) ∷ g .frames) 0 (field file p childrenPlace) (childrenEnd file p) with ≡ on with
+            none = rest-end E (level E (depthLimit - suc (length (g .frames)))) p path-here 0 (field file p childrenPlace) (childrenEnd file p) with (omega (arith, eb, z))
+
+        -- into its children
+        pub flat-down : Lies file p → (place size : ℕ) (sk' : Seek) → place ≡ field file p childrenPlace → size ≡ field file p childrenBytes
+            → sk' ≡ entered sk leads up → Flat visited noted (up + 1) place (place + size) (marksMore k found) sk'
+        unfolding rests
+        flat-down lies place size sk' ep eb es = record {
+          so = with;
+          frames = frame p (g .i) ∷ g .frames;
+          i = 0;
+          holds = held;
+          deep = omega (arith, g .deep);
+          shallow = safe file t (up + 1) p (s .table) (goes .passes) .shallow;
+          stands = noted-stands file at way up p (g .frames) (g .deep) w (g .stands) (g .i);
+          lie = (lies, g .lie);
+          numbered = (g .here, g .numbered);
+          here = ep ∙ sym (sibling-first file (field file p childrenPlace));
+          ends-at = rw (ep, eb);
+          seeks = rw (es, el, g .deep, ← ups-length (g .frames)) (seeks-into path (upsOf (g .frames)) (g .i) sk (g .seeks));
+          last = last-here lies;
+          same = rw (ep, eb) (at-visit ∙ ap (λ (o : Outcome). bind o then) on-visit ∙ resting);
+        }
+          where
+            resting : bind (part E (frame p (g .i) ∷ g .frames) 0 (field file p childrenPlace) (childrenEnd file p) with) then
+                ≡ bind (part E (frame p (g .i) ∷ g .frames) 0 (field file p childrenPlace) (childrenEnd file p) with) (rests E stop (frame p (g .i) ∷ g .frames))
+            resting = same-bind (part E (frame p (g .i) ∷ g .frames) 0 (field file p childrenPlace) (childrenEnd file p) with) _ _
+                (λ l. ap (λ (x : ℕ). bind (part E (g .frames) (suc (g .i)) (p + extent file p) x l) rest-of) (g .ends-at))

@@ -1,0 +1,9 @@
+pub mod Places
+pub mod Counting
+pub mod Writing
+pub mod Slices
+pub mod Frames
+pub mod Flat
+pub mod Free
+pub mod Opened
+pub mod Leaving

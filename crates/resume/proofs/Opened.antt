@@ -1,0 +1,86 @@
+-- The walk of an opened file: from its roots, where there are any. The table is cleared first, and only its length counts.
+use Prim.Native.Nat.{ℕ, suc, _+_}
+use mathlib.Core.List.{List, []}
+use mathlib.Core.Path.{_≡_, refl, sym, ap, _∙_}
+use native.Mathlib.Omega.{arith}
+use native.Mathlib.Nat.{not-suc-le-zero}
+use lib.Dec.{eqb}
+use lib.ListN.{length, replicate, length-replicate}
+use Rattle.le.specs.Number.{number}
+use Rattle.refusal.specs.Check.{either}
+use Rattle.open.specs.Format.{meta}
+use Rattle.open.specs.Names as Section
+use Rattle.open.specs.Opening.{field, placeIn}
+use Rattle.open.specs.Kept.{Sections}
+use Rattle.context.specs.Context.{Targets, targetsOf}
+use Rattle.traversal.specs.declared.Walked.{Walked}
+use Rattle.traversal.specs.declared.Walked.the-variants.{Complete}
+use Rattle.traversal.specs.Traversal.{Marks, on, listOf, depthLimit, level, fromRoots}
+use Rattle.traversal.specs.From.{lastPath, limitedFrom}
+use Rattle.traversal.specs.Walk.{tableWith, Slices, slices}
+use Rattle.traversal.proofs.Steps.{rest-end, level-rest}
+use Rattle.resume.specs.State.{Holds, countedEnd, Ended, askedWith, RootsDone, AllDone}
+use Rattle.resume.proofs.Slices.{start}
+
+-- with a table as long, whatever it held
+module _ (file : List ℕ) (t : Targets) (path : List ℕ) (was : Slices) (at stop : ℕ) (r : Walked) (s : Slices) (way : List ℕ) where
+  abbrev begun : List ℕ → Slices
+  begun table = slices (was .listing) table (was .records)
+
+  as-long : (table : List ℕ) → length table ≡ length (was .table) → RootsDone file t path at stop (begun table) r s way
+      → RootsDone file t path at stop was r s way
+  as-long table e d m bytes =
+      let h = rw e at (d m bytes) in
+      let o = level (limitedFrom path (askedWith file was m bytes) t) (suc depthLimit) 0 [] at stop [] in
+      record {
+        holds = record {
+          listed = h .holds .listed;
+          filled = h .holds .filled ∙ ap (tableWith (listOf o)) e;
+          recorded = h .holds .recorded;
+          counted = h .holds .counted;
+          placed = h .holds .placed;
+        };
+        says = h .says;
+        last = h .last;
+      }
+
+-- where there are none
+empty-roots : (file : List ℕ) (t : Targets) (path : List ℕ) (was : Slices) (place bytes : ℕ) (table : List ℕ) → length table ≡ length (was .table)
+    → (m : Marks) (n k : ℕ) (way : List ℕ) → bytes ≡ 0 → Holds path was [] (slices (was .listing) table (was .records)) k → way ≡ replicate 201 0
+    → Ended file place path (slices (was .listing) table (was .records))
+    (level (limitedFrom path (askedWith file (slices (was .listing) table (was .records)) m n) t) (suc depthLimit) 0 [] place (place + bytes) [])
+    (Complete k) (slices (was .listing) table (was .records)) way
+unfolding countedEnd lastPath
+empty-roots file t path was place bytes table e m n k way z h ew =
+    let E = limitedFrom path (askedWith file (slices (was .listing) table (was .records)) m n) t in
+    let none : level E (suc depthLimit) 0 [] place (place + bytes) [] ≡ on [] =
+    level-rest E depthLimit 0 [] place (place + bytes) [] ∙ rest-end E (level E depthLimit) 0 [] 0 place (place + bytes) [] (omega arith) in
+    rw none (record {
+      holds = record { listed = h .listed; filled = h .filled ∙ ap (tableWith []) (sym e); recorded = h .recorded; counted = refl; placed = tt };
+      says = ap Complete (h .counted);
+      last = record { depth = rw ew; stands = λ k q. absurd (not-suc-le-zero q); lie = λ k q. absurd (not-suc-le-zero q) };
+    })
+
+module _ (file : List ℕ) (path : List ℕ) (was : Slices) {ps : List (List ℕ)} (o : Sections meta file ps) (t : Targets) (et : t ≡ targetsOf file ps)
+    (place bytes : ℕ) (ep : place ≡ number 8 file (placeIn ps Section.context + 8)) (eb : bytes ≡ number 8 file (placeIn ps Section.context + 0))
+    (table : List ℕ) (ec : table ≡ replicate (length (was .table)) 0) where
+  abbrev cleared : Slices
+  cleared = slices (was .listing) table (was .records)
+
+  long : length table ≡ length (was .table)
+  long = ap length ec ∙ length-replicate (length (was .table)) 0
+
+  pub from-roots : (r : Walked) (s : Slices) (way : List ℕ) → RootsDone file t path place (place + bytes) cleared r s way → AllDone file ps path was r s way
+  unfolding fromRoots field targetsOf
+  from-roots r s way d m n = rw (← ep, ← eb, ← et) (as-long file t path was place (place + bytes) r s way table long d m n)
+
+  pub no-roots : (k : ℕ) (way : List ℕ) → bytes ≡ 0 → k ≡ either (eqb (length path) 0) 1 0 → way ≡ replicate 201 0
+      → AllDone file ps path was (Complete k) cleared way
+  no-roots k way z ek ew = from-roots (Complete k) cleared way (λ m n. nothing m n)
+    where
+      h : Holds path was [] cleared k
+      h = rw ek (start path was table ec)
+
+      nothing : (m : Marks) (n : ℕ) → Ended file place path cleared (level (limitedFrom path (askedWith file cleared m n) t) (suc depthLimit) 0 [] place (place + bytes) [])
+          (Complete k) cleared way
+      nothing m n = empty-roots file t path was place bytes table long m n k way z h ew

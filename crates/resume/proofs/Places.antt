@@ -1,0 +1,81 @@
+-- Places by numbers: siblings rise, so a place has one number; and the places on a path, one level after the other.
+use Prim.Native.Nat.{ℕ, zero, suc, _+_, _-_, _≤_, _<_}
+use mathlib.Core.List.{List, [], _∷_}
+use mathlib.Core.Path.{_≡_, refl, ap}
+use native.Mathlib.Decide.{decLe}
+use native.Mathlib.Omega.{arith}
+use native.Mathlib.Nat.{not-suc-le-zero}
+use lib.ListN.{length, getD, take}
+use Rattle.open.specs.Opening.{field}
+use Rattle.context.specs.Context.{childrenPlace, extent}
+use Rattle.traversal.proofs.Keeps.{snoc}
+use Rattle.traversal.proofs.Steps.{takes-some}
+use Rattle.resume.specs.Way.{siblingPlace, placesOn}
+
+-- ---- siblings
+
+module _ (file : List ℕ) (start : ℕ) where
+  pub sibling-first : siblingPlace file start 0 ≡ start
+  unfolding siblingPlace
+  sibling-first = refl
+
+  pub sibling-next : (i : ℕ) → siblingPlace file start (suc i) ≡ siblingPlace file start i + extent file (siblingPlace file start i)
+  unfolding siblingPlace
+  sibling-next i = refl
+
+  rises : (i k : ℕ) → siblingPlace file start i + k ≤ siblingPlace file start (i + k)
+  rises i zero = let e : i + 0 ≡ i = omega arith in rw e (omega arith)
+  rises i (suc k) =
+      let e : i + suc k ≡ suc (i + k) = omega arith in
+      rw e (omega (arith, rises i k, sibling-next (i + k), takes-some file (siblingPlace file start (i + k))))
+
+  -- no number is greater than its place
+  pub sibling-small : (i : ℕ) → i ≤ siblingPlace file start i
+  sibling-small i = let e : 0 + i ≡ i = omega arith in omega (arith, rises 0 i, ap (siblingPlace file start) e)
+
+  -- a place has one number
+  pub sibling-number : (i j : ℕ) → siblingPlace file start i ≤ siblingPlace file start j → i ≤ j
+  sibling-number i j h = elim (decLe i j) [
+    | yes e ↦ e
+    | no e ↦ absurd (let s : j + (i - j) ≡ i = omega arith in omega (arith, rises j (i - j), ap (siblingPlace file start) s))
+  ]
+
+-- ---- on a path
+
+-- where the array starts that lies below a path
+abbrev pub startBelow : List ℕ → (start : ℕ) (path : List ℕ) → ℕ
+startBelow file start [] = start
+startBelow file start (i ∷ path) = startBelow file (field file (siblingPlace file start i) childrenPlace) path
+
+module _ (file : List ℕ) where
+  pub length-places : (start : ℕ) (path : List ℕ) → length (placesOn file start path) ≡ length path
+  unfolding placesOn
+  length-places start [] = refl
+  length-places start (i ∷ path) = ap suc (length-places (field file (siblingPlace file start i) childrenPlace) path)
+
+  pub place-at : (start : ℕ) (path : List ℕ) (k : ℕ) → k < length path
+      → getD (placesOn file start path) k 0 ≡ siblingPlace file (startBelow file start (take k path)) (getD path k 0)
+  unfolding placesOn
+  place-at start [] k h = absurd (not-suc-le-zero h)
+  place-at start (i ∷ path) zero h = refl
+  place-at start (i ∷ path) (suc k) h = place-at (field file (siblingPlace file start i) childrenPlace) path k (omega arith)
+
+  -- the array below the place on level k
+  pub start-next : (start : ℕ) (path : List ℕ) (k : ℕ) → k < length path
+      → startBelow file start (take (suc k) path) ≡ field file (getD (placesOn file start path) k 0) childrenPlace
+  unfolding placesOn
+  start-next start [] k h = absurd (not-suc-le-zero h)
+  start-next start (i ∷ path) zero h = refl
+  start-next start (i ∷ path) (suc k) h = start-next (field file (siblingPlace file start i) childrenPlace) path k (omega arith)
+
+  pub start-snoc : (start : ℕ) (path : List ℕ) (i : ℕ)
+      → startBelow file start (snoc path i) ≡ field file (siblingPlace file (startBelow file start path) i) childrenPlace
+  start-snoc start [] i = refl
+  start-snoc start (j ∷ path) i = start-snoc (field file (siblingPlace file start j) childrenPlace) path i
+
+  pub places-snoc : (start : ℕ) (path : List ℕ) (i : ℕ)
+      → placesOn file start (snoc path i) ≡ snoc (placesOn file start path) (siblingPlace file (startBelow file start path) i)
+  unfolding placesOn
+  places-snoc start [] i = refl
+  places-snoc start (j ∷ path) i =
+      ap (_∷_ (siblingPlace file start j)) (places-snoc (field file (siblingPlace file start j) childrenPlace) path i)

@@ -1,0 +1,24 @@
+-- The field that is read is the ctxId.
+use mathlib.Core.Path.{refl}
+use native.Mathlib.Omega.{arith}
+use borrow.Author.Needs.{needs}
+use denote.Ref.{now}
+use Rattle.visit.proofs.Checks.{id-read}
+use Rattle.resume.proofs.keep.Statement.{statement}
+use Rattle.resume.proofs.keep.Tie as tie
+
+slice-write-table : tie.Need-slice-write-table
+slice-write-table c =
+    let id = id-read (now (c .before .before .before .args .file)) (c .before .before .before .args .p) (c .load-u32 .result) (c .load-u32 .ensures) in
+    omega (arith, c .before .before .before .pre .1 .0, id)
+
+returns : tie.Need-returns
+returns c =
+    let id = id-read (now (c .before .before .before .args .file)) (c .before .before .before .args .p) (c .load-u32 .result) (c .load-u32 .ensures) in
+    (rw id, refl)
+
+pub keep-spec : {M : Type 1} → statement M
+keep-spec =
+    tie.close
+    (tie.spec (λ c. search needs) (λ c κs. search needs) (λ c. search needs) (λ c. search needs) slice-write-table (λ c. search needs)
+    (λ c. search needs) (λ c. search needs) (λ c. search needs) returns)
