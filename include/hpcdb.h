@@ -181,7 +181,7 @@ uint32_t hpcdb_meta_function(const uint8_t *file, size_t file_length, uint64_t i
  *       if (!listing || !table) ..;
  *   }
  * (with n and m above 0 at first; a ctxId has 32 bits, so that a damaged file may ask for 2^32 slots). No call leads to another of its
- * kind: a walk took 2,272 bytes of the stack, and one from a mark 2,288, with a chain of 201 contexts. */
+ * kind: a walk took 2,240 bytes of the stack, and one from a mark 2,256, with a chain of 201 contexts. */
 uint32_t hpcdb_meta_walk(const uint8_t *file, size_t file_length, uint64_t *listing, size_t listing_length, uint64_t *table,
                          size_t table_length, uint64_t out[1]);
 

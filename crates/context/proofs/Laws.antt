@@ -15,9 +15,8 @@ use Rattle.context.specs.Context.{flags, flexWords, extent, contextRule}
 use Rattle.context.specs.Sound.{Readable}
 
 -- a present field ends inside what its flags need
-pub field-inside : (bits j b : ℕ) (present : Bool) → j < 5 → present ≡ bit bits (getD packing j 0) → present ≡ true → b ≡ before bits j
-    → b < words bits
-field-inside bits j b present h e t k = omega (arith, inside bits j h (sym e ∙ t))
+pub field-inside : (bits j b : ℕ) → j < 5 → bit bits (getD packing j 0) ≡ true → b ≡ before bits j → b < words bits
+field-inside bits j b h present k = omega (arith, inside bits j h present)
 
 leb-shift : (a b c : ℕ) → a ≤ c → leb b (c - a) ≡ leb (a + b) c
 leb-shift a b c h = go (leb b (c - a)) refl

@@ -1,4 +1,5 @@
 // One context of meta.db: its rules, its fields.
+ghost use mathlib.Core.Bool.{true};
 ghost use mathlib.Core.Path.{_≡_};
 ghost use Prim.Native.Nat.{_+_, _*_, _≤_, _<_};
 ghost use lib.ListN.{length, getD};
@@ -96,14 +97,23 @@ pub fn context_rule(file: &[u8], p: usize, stop: usize) -> bool
     (extent(file, p) <= stop - p) & (needed <= held)
 }
 
-// Flex field j, eight bytes wide; 0 where it is not present.
+// Flex field j, which is present, eight bytes wide.
+fn present_word(file: &[u8], p: usize, flags: u8, j: u64) -> u64
+    requires { ⌜ p + 24 + 8 * words flags ≤ length (now file) ⌝ }
+    requires { ⌜ (j < 5) × (bit flags (getD packing j 0) ≡ true) ⌝ }
+    ensures { λ r. ⌜ r ≡ number 8 (now (file .entry)) (p + 24 + place flags j) ⌝ }
+{
+    le::load_u64(file, p + FLEX + 8 * (flex::before(flags, j) as usize))
+}
+
+// 0 where it is not present.
 fn flex_word(file: &[u8], p: usize, flags: u8, present: bool, j: u64) -> u64
     requires { ⌜ p + 24 + 8 * words flags ≤ length (now file) ⌝ }
     requires { ⌜ (j < 5) × (present ≡ bit flags (getD packing j 0)) ⌝ }
     ensures { λ r. ⌜ r ≡ either present (number 8 (now (file .entry)) (p + 24 + place flags j)) 0 ⌝ }
 {
     if present {
-        return le::load_u64(file, p + FLEX + 8 * (flex::before(flags, j) as usize));
+        return present_word(file, p, flags, j);
     }
     0
 }
@@ -119,11 +129,14 @@ fn line(file: &[u8], p: usize, flags: u8) -> u64
     0
 }
 
-// 9, of one link.
-fn link_rule(present: bool, a: Array, link: u64) -> bool
-    ensures { λ r. ⌜ r ≡ linkRule present a link ⌝ }
+// 9, of the link in flex field j.
+fn link_rule(file: &[u8], p: usize, flags: u8, present: bool, j: u64, a: Array) -> bool
+    requires { ⌜ p + 24 + 8 * words flags ≤ length (now file) ⌝ }
+    requires { ⌜ (j < 5) × (present ≡ bit flags (getD packing j 0)) ⌝ }
+    ensures { λ r. ⌜ r ≡ linkRule present a (either present (number 8 (now (file .entry)) (p + 24 + place flags j)) 0) ⌝ }
 {
     if present {
+        let link = present_word(file, p, flags, j);
         return (link != 0) & array::is_element(a, link);
     }
     true
@@ -138,12 +151,12 @@ pub fn links_rule(file: &[u8], targets: &[u64; TARGETS], p: usize) -> bool
     let has_function = flex::has_function(flags);
     let has_source = flex::has_source(flags);
     let has_point = flex::has_point(flags);
-    let function = flex_word(file, p, flags, has_function, 0);
-    let source = flex_word(file, p, flags, has_source, 1);
-    let load_module = flex_word(file, p, flags, has_point, 3);
-    link_rule(has_function, array_in(targets, FUNCTIONS), function)
-        & (link_rule(has_source, array_in(targets, FILES), source)
-            & link_rule(has_point, array_in(targets, MODULES), load_module))
+    let functions = array_in(targets, FUNCTIONS);
+    let files = array_in(targets, FILES);
+    let modules = array_in(targets, MODULES);
+    link_rule(file, p, flags, has_function, 0, functions)
+        & (link_rule(file, p, flags, has_source, 1, files)
+            & link_rule(file, p, flags, has_point, 3, modules))
 }
 
 // 7.

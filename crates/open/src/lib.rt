@@ -69,9 +69,10 @@ pub fn array_rule(at: u64, end: u64, size: u64, place: u64, count: u64, stride: 
 pub fn contexts_rule(at: u64, end: u64, size: u64, place: u64, bytes: u64) -> bool
     ensures { λ r. ⌜ r ≡ contextsRule at end size place bytes ⌝ }
 {
-    ((place == 0) & (bytes == 0))
-        | (((place != 0) & (bytes != 0))
-            & (range::in_section(at, end, size, place, bytes, 1) & range::multiple(place, 8)))
+    if bytes == 0 {
+        return place == 0;
+    }
+    (place != 0) & (range::in_section(at, end, size, place, bytes, 1) & range::multiple(place, 8))
 }
 
 // Place and size of the section whose entry in the header stands at a place.

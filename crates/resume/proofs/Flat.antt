@@ -1,12 +1,12 @@
 -- A walk that keeps its way down in words: what is left of it is the rest of each array on the way, the deepest first. The frames' numbers
 -- and the contexts so far stand in no word; they say what the words are.
-use Prim.Native.Nat.{ℕ, suc, _+_, _-_, _≤_, _<_}
-use mathlib.Core.Bool.{Bool, true, false, _&&_}
+use Prim.Native.Nat.{ℕ, zero, suc, _+_, _-_, _≤_, _<_}
+use mathlib.Core.Bool.{Bool, true, false}
 use mathlib.Core.List.{List, [], _∷_}
 use mathlib.Core.Path.{_≡_, refl, sym, ap, ap₂, _∙_}
 use native.Mathlib.Omega.{arith}
 use native.Mathlib.Nat.{not-suc-le-zero}
-use borrow.Author.Tests.{le-leb, leb-true, leb-false}
+use borrow.Author.Tests.{le-leb, leb-true, leb-false, eq-eqb}
 use lib.Dec.{eqb, leb}
 use lib.ListN.{length, getD, set, length-append}
 use Rattle.refusal.specs.declared.Refusal.{Refusal}
@@ -14,7 +14,6 @@ use Rattle.refusal.specs.declared.Refusal.the-variants as No
 use Rattle.refusal.specs.declared.Check.{Check}
 use Rattle.refusal.specs.declared.Check.the-variants as Check
 use Rattle.refusal.specs.Check.{either, rule, first, ifPassed}
-use Rattle.layout.specs.Stands.{starts}
 use Rattle.open.specs.Opening.{field}
 use Rattle.context.specs.Context.{Targets, childrenPlace, childrenBytes, ctxId, extent, contextRule}
 use Rattle.open.specs.Kept.{ContextsKept}
@@ -28,17 +27,16 @@ use Rattle.traversal.specs.From.{samePath, lastPath, marksFrom, limitedFrom}
 use Rattle.traversal.specs.Walk.{Slices, slices}
 use Rattle.traversal.proofs.Keeps.{snoc}
 use Rattle.traversal.proofs.Steps.{same-bind, rest, rest-end, rest-step, level-rest, visit-refused, visit-10, visit-cut, visit-on}
-use Rattle.traversal.proofs.Passing.{same-step}
 use Rattle.seek.specs.declared.Seek.{Seek}
-use Rattle.seek.specs.Seek.{seek, leadsTo, passedBy, entered, left, Seeks}
-use Rattle.seek.proofs.Matching.{seeks-start, seeks-leads, seeks-by, seeks-into, seeks-back, seeks-small}
+use Rattle.seek.specs.Seek.{seek, stepped, Next, Seeks}
+use Rattle.seek.proofs.Matching.{next-child, next-sibling, next-above, seeks-start, seeks-found, seeks-on}
 use Rattle.visit.specs.Visit.{checksAfter10}
 use Rattle.visit.proofs.Checks.{judged, safe}
 use Rattle.resume.specs.Way.{siblingPlace, WayTo, childrenEnd, endBelow, nextBelow, Lies, LiesBelow}
 use Rattle.resume.specs.State.{Holds, countedEnd, Ended, askedWith, verdict, marksMore, listingMore, RecordMore}
-use Rattle.resume.proofs.Places.{sibling-first, sibling-next, sibling-small}
+use Rattle.resume.proofs.Places.{sibling-first, sibling-next}
 use Rattle.resume.proofs.Slices.{long, recounted, one-more}
-use Rattle.resume.proofs.Frames.{Frame, frame, upsOf, parentOf, arrayStart, arrayEnd, WayStands, AllLie, Numbered, ups-length, below-end, below-lies, end-inside, leads-to, numbers-below, noted-above, noted-stands, noted-depth}
+use Rattle.resume.proofs.Frames.{Frame, frame, upsOf, parentOf, arrayStart, arrayEnd, WayStands, AllLie, Numbered, ups-length, below-end, below-lies, end-inside, leads-to, noted-above, noted-stands, noted-depth}
 
 -- ---- what follows
 
@@ -84,6 +82,18 @@ unfolding lastPath
 last-snoc path [] e = refl
 last-snoc path (x ∷ l) e = last-snoc (x .path) l e
 
+-- the mark is sought at first if it has levels, and after a context if it was before and is not found
+first-sought : (n k : ℕ) → k ≡ either (eqb n 0) 1 0 → k ≡ 0 → 0 < n
+unfolding either
+first-sought zero k e z = absurd (omega (arith, e, z))
+first-sought (suc n) k e z = omega arith
+
+still-sought : (k : ℕ) (found : Bool) → marksMore k found ≡ 0 → (k ≡ 0) × (found ≡ false)
+unfolding marksMore either
+still-sought zero true e = absurd (omega (arith, e))
+still-sought zero false e = (refl, refl)
+still-sought (suc k) found e = absurd (omega (arith, e))
+
 -- the walk goes on to the context at p
 pub record Goes (file : List ℕ) (t : Targets) (s : Slices) (up p e k : ℕ) : Type 0 where
   pub fine-here : contextRule file p e ≡ true
@@ -120,13 +130,15 @@ module _ (file : List ℕ) (t : Targets) (path : List ℕ) (was : Slices) (at st
     pub numbered : Numbered file at frames
     pub here : p ≡ siblingPlace file (arrayStart file at frames) i
     pub ends-at : e ≡ arrayEnd file stop frames
-    pub seeks : Seeks path (upsOf frames) i sk
+    pub next : Next (lastPath [] so) (upsOf frames) i
+    pub seeks : k ≡ 0 → Seeks path (lastPath [] so) sk
     pub last : WayTo file at (lastPath [] so) way
     pub same : all ≡ bind (part E frames i p e so) (rests E stop frames)
 
-  pub flat-start : (s : Slices) (way : List ℕ) (k : ℕ) → Holds path was [] s k → getD way 0 0 ≡ 0 → Flat s way 0 at stop k (seek 0 0)
+  pub flat-start : (s : Slices) (way : List ℕ) (k : ℕ) → Holds path was [] s k → k ≡ either (eqb (length path) 0) 1 0 → getD way 0 0 ≡ 0
+      → Flat s way 0 at stop k (seek 0 0)
   unfolding rests lastPath
-  flat-start s way k h z = record {
+  flat-start s way k h ek z = record {
     so = [];
     frames = [];
     i = 0;
@@ -138,7 +150,8 @@ module _ (file : List ℕ) (t : Targets) (path : List ℕ) (was : Slices) (at st
     numbered = tt;
     here = sym (sibling-first file at);
     ends-at = refl;
-    seeks = seeks-start path;
+    next = refl;
+    seeks = λ none. seeks-start path (first-sought (length path) k ek none);
     last = record { depth = z; stands = λ k q. absurd (not-suc-le-zero q); lie = λ k q. absurd (not-suc-le-zero q) };
     same = level-rest E depthLimit 0 [] at stop [] ∙ bind-on (part E [] 0 at stop []);
   }
@@ -146,12 +159,6 @@ module _ (file : List ℕ) (t : Targets) (path : List ℕ) (was : Slices) (at st
   module _ (s : Slices) (way : List ℕ) (up p e k : ℕ) (sk : Seek) (g : Flat s way up p e k sk) where
     pub inside : stop ≤ length file → e ≤ length file
     inside h = omega (arith, g .ends-at, end-inside file stop (g .frames) (g .lie) h)
-
-    -- what is seen is no more than the siblings before p, or those of a context on the way
-    pub seen-small : p ≤ length file → sk .seen ≤ length file
-    seen-small h =
-        seeks-small path (upsOf (g .frames)) (g .i) sk (g .seeks) (length file)
-        (omega (arith, g .here, sibling-small file (arrayStart file at (g .frames)) (g .i))) (numbers-below file at (g .frames) (g .numbered) (g .lie))
 
     abbrev rest-of : List Entry → Outcome
     rest-of = rests E stop (g .frames)
@@ -184,21 +191,21 @@ module _ (file : List ℕ) (t : Targets) (path : List ℕ) (was : Slices) (at st
     pub record Popped (u : ℕ) : Type 0 where
       pub lies : LiesBelow file way (suc u)
       pub above : LiesBelow file way u
-      pub next : (p' e' : ℕ) (sk' : Seek) → p' ≡ nextBelow file way u → e' ≡ endBelow file stop way u → sk' ≡ left path sk u → Flat s way u p' e' k sk'
+      pub goes-back : (p' e' : ℕ) → p' ≡ nextBelow file way u → e' ≡ endBelow file stop way u → Flat s way u p' e' k sk
 
     pub flat-pop : e ≤ p → (up ≡ 0 → ⊥) → Popped (up - 1)
     unfolding rests
-    flat-pop h z = go (g .frames) (g .deep) (g .stands) (g .lie) (g .numbered) (g .seeks) (popped h)
+    flat-pop h z = go (g .frames) (g .deep) (g .stands) (g .lie) (g .numbered) (g .next) (popped h)
       where
         go : (frames : List Frame) → up ≡ length frames → WayStands way frames → AllLie file frames → Numbered file at frames
-            → Seeks path (upsOf frames) (g .i) sk → all ≡ rests E stop frames (g .so) → Popped (up - 1)
-        go [] d st al nu se r = absurd (z d)
-        go (x ∷ frames) d st al nu se r =
+            → Next (lastPath [] (g .so)) (upsOf frames) (g .i) → all ≡ rests E stop frames (g .so) → Popped (up - 1)
+        go [] d st al nu ne r = absurd (z d)
+        go (x ∷ frames) d st al nu ne r =
             let less : up - 1 ≡ length frames = omega arith in
             rw less (record {
               lies = rw (st .0) (al .0);
               above = below-lies file way frames (st .1) (al .1);
-              next = λ p' e' sk' ep ee es.
+              goes-back = λ p' e' ep ee.
                   let there : e' ≡ arrayEnd file stop frames = ee ∙ below-end file stop way frames (st .1) in
                   let beside : p' ≡ x .place + extent file (x .place) = ep ∙ rw (st .0) in
                   record {
@@ -213,7 +220,8 @@ module _ (file : List ℕ) (t : Targets) (path : List ℕ) (was : Slices) (at st
                     numbered = nu .1;
                     here = beside ∙ ap (λ (q : ℕ). q + extent file q) (nu .0) ∙ sym (sibling-next file (arrayStart file at frames) (x .number));
                     ends-at = there;
-                    seeks = rw (es, ← ups-length frames) (seeks-back path (upsOf frames) (x .number) (g .i) sk se);
+                    next = next-above (lastPath [] (g .so)) (upsOf frames) (x .number) (g .i) ne;
+                    seeks = g .seeks;
                     last = g .last;
                     same = rw (beside, there) r;
                   };
@@ -315,8 +323,8 @@ module _ (file : List ℕ) (t : Targets) (path : List ℕ) (was : Slices) (at st
               let none : field file p childrenBytes ≡ 0 = omega (arith, leb-false 1 (field file p childrenBytes) l) in
               omega (arith, x .no-bytes none)
 
-      module _ (goes : Goes file t s up p e k) (leads found : Bool) (el : leads ≡ leadsTo path sk up) (ef : found ≡ leads && eqb (length path) (up + 1))
-          (records : List ℕ) (put : RecordMore file p (up + 1) k (s .records) records) (y : 0 < p) (w : suc up < length way) where
+      module _ (goes : Goes file t s up p e k) (sk' : Seek) (es : sk' ≡ either (eqb k 0) (stepped path sk up) sk) (found : Bool)
+          (ef : found ≡ eqb (sk' .matched) (length path)) (records : List ℕ) (put : RecordMore file p (up + 1) k (s .records) records) (y : 0 < p) (w : suc up < length way) where
         abbrev visited : Slices
         visited = slices (listingMore k p (s .listing)) (set (s .table) (field file p ctxId) p) records
 
@@ -326,13 +334,29 @@ module _ (file : List ℕ) (t : Targets) (path : List ℕ) (was : Slices) (at st
         abbrev with : List Entry
         with = snoc (g .so) (entryAt file (parentOf (g .frames)) path-here p)
 
-        -- whether it leads to the mark's context, and whether it is that
-        leads-here : leads ≡ starts path-here path
-        leads-here =
-            el ∙ ap (leadsTo path sk) (g .deep ∙ sym (ups-length (g .frames))) ∙ seeks-leads path (upsOf (g .frames)) (g .i) sk (g .seeks)
+        last-path : lastPath [] with ≡ path-here
+        unfolding entryAt
+        last-path = last-snoc [] (g .so) (entryAt file (parentOf (g .frames)) path-here p)
 
-        found-here : found ≡ samePath path path-here
-        found-here = ef ∙ ap₂ (λ (a : Bool) (n : ℕ). a && eqb (length path) n) leads-here (sym here-length) ∙ sym (same-step path path-here)
+        -- while the mark is sought: the step, and whether it is the mark's context
+        abbrev stepped-here : Seek
+        stepped-here = stepped path sk (length (upsOf (g .frames)))
+
+        steps : k ≡ 0 → sk' ≡ stepped-here
+        unfolding either
+        steps none = es ∙ rw (eq-eqb k 0 none, g .deep, ups-length (g .frames))
+
+        found-here : k ≡ 0 → found ≡ samePath path path-here
+        found-here none =
+            ef ∙ ap (λ (n : Seek). eqb (n .matched) (length path)) (steps none)
+            ∙ seeks-found path (lastPath [] (g .so)) (upsOf (g .frames)) (g .i) sk (g .next) (g .seeks none)
+
+        seeks-here : marksMore k found ≡ 0 → Seeks path (lastPath [] with) sk'
+        seeks-here none =
+            let still = still-sought k found none in
+            rw (last-path, steps (still .0))
+            (seeks-on path (lastPath [] (g .so)) (upsOf (g .frames)) (g .i) sk (g .next) (g .seeks (still .0))
+            (ap (λ (n : Seek). eqb (n .matched) (length path)) (sym (steps (still .0))) ∙ sym ef ∙ still .1))
 
         held : Holds path was with visited (marksMore k found)
         held = one-more (g .holds) file (parentOf (g .frames)) path-here p (up + 1) y here-length found found-here records put
@@ -347,16 +371,15 @@ module _ (file : List ℕ) (t : Targets) (path : List ℕ) (was : Slices) (at st
             ∙ rw less (level-rest E (depthLimit - suc (length (g .frames))) p path-here (field file p childrenPlace) (childrenEnd file p) with)
 
         last-here : Lies file p → WayTo file at (lastPath [] with) noted
-        unfolding entryAt
         last-here lies =
-            rw (last-snoc [] (g .so) (entryAt file (parentOf (g .frames)) path-here p))
+            rw last-path
             (leads-to file at noted (frame p (g .i) ∷ g .frames) (noted-stands file at way up p (g .frames) (g .deep) w (g .stands) (g .i))
             (g .here, g .numbered) (lies, g .lie) (noted-depth file at way up p (g .frames) (g .deep) w))
 
         -- without children
-        pub flat-leaf : Lies file p → (r size : ℕ) (sk' : Seek) → r ≡ extent file p → size ≡ field file p childrenBytes → size ≡ 0 → sk' ≡ passedBy sk up
+        pub flat-leaf : Lies file p → (r size : ℕ) → r ≡ extent file p → size ≡ field file p childrenBytes → size ≡ 0
             → Flat visited noted up (p + r) e (marksMore k found) sk'
-        flat-leaf lies r size sk' er eb z es = record {
+        flat-leaf lies r size er eb z = record {
           so = with;
           frames = g .frames;
           i = suc (g .i);
@@ -368,7 +391,8 @@ module _ (file : List ℕ) (t : Targets) (path : List ℕ) (was : Slices) (at st
           numbered = g .numbered;
           here = rw er (ap (λ (q : ℕ). q + extent file q) (g .here) ∙ sym (sibling-next file (arrayStart file at (g .frames)) (g .i)));
           ends-at = g .ends-at;
-          seeks = rw (es, g .deep, ← ups-length (g .frames)) (seeks-by path (upsOf (g .frames)) (g .i) sk (g .seeks));
+          next = rw last-path (next-sibling (upsOf (g .frames)) (g .i));
+          seeks = seeks-here;
           last = last-here lies;
           same = rw er (at-visit ∙ ap (λ (o : Outcome). bind o then) (on-visit ∙ none) ∙ bind-at with then);
         }
@@ -377,10 +401,10 @@ module _ (file : List ℕ) (t : Targets) (path : List ℕ) (was : Slices) (at st
             none = rest-end E (level E (depthLimit - suc (length (g .frames)))) p path-here 0 (field file p childrenPlace) (childrenEnd file p) with (omega (arith, eb, z))
 
         -- into its children
-        pub flat-down : Lies file p → (place size : ℕ) (sk' : Seek) → place ≡ field file p childrenPlace → size ≡ field file p childrenBytes
-            → sk' ≡ entered sk leads up → Flat visited noted (up + 1) place (place + size) (marksMore k found) sk'
+        pub flat-down : Lies file p → (place size : ℕ) → place ≡ field file p childrenPlace → size ≡ field file p childrenBytes
+            → Flat visited noted (up + 1) place (place + size) (marksMore k found) sk'
         unfolding rests
-        flat-down lies place size sk' ep eb es = record {
+        flat-down lies place size ep eb = record {
           so = with;
           frames = frame p (g .i) ∷ g .frames;
           i = 0;
@@ -392,7 +416,8 @@ module _ (file : List ℕ) (t : Targets) (path : List ℕ) (was : Slices) (at st
           numbered = (g .here, g .numbered);
           here = ep ∙ sym (sibling-first file (field file p childrenPlace));
           ends-at = rw (ep, eb);
-          seeks = rw (es, el, g .deep, ← ups-length (g .frames)) (seeks-into path (upsOf (g .frames)) (g .i) sk (g .seeks));
+          next = rw last-path (next-child path-here);
+          seeks = seeks-here;
           last = last-here lies;
           same = rw (ep, eb) (at-visit ∙ ap (λ (o : Outcome). bind o then) on-visit ∙ resting);
         }

@@ -10,13 +10,11 @@ use borrow.Author.Tests.{eqb-true, eqb-false}
 use lib.Dec.{eqb}
 use lib.ListN.{length, getD, set, length-append, length-set, List·getD-append}
 use lib.Seq.{getD-set-same, getD-set-other, getD-at}
-use Rattle.seq.specs.Lists.{Below}
-use Rattle.seq.proofs.Lists.{all-append}
 use Rattle.open.specs.Opening.{field}
 use Rattle.context.specs.Context.{childrenPlace, extent}
 use Rattle.traversal.proofs.Keeps.{snoc}
 use Rattle.resume.specs.Way.{siblingPlace, placesOn, WayTo, childrenEnd, endBelow, Lies, LiesBelow}
-use Rattle.resume.proofs.Places.{sibling-small, startBelow, start-snoc, places-snoc}
+use Rattle.resume.proofs.Places.{startBelow, start-snoc, places-snoc}
 
 pub record Frame : Type 0 where
   pub place : ℕ
@@ -140,14 +138,6 @@ module _ (file : List ℕ) (at : ℕ) where
     stands = λ k h. word-at way frames s k (omega (arith, ups-length frames)) ∙ ap (λ (q : List ℕ). getD q k 0) (sym (places-up frames n));
     lie = λ k h. word-lies way frames s a k (omega (arith, ups-length frames));
   }
-
-  -- no number on the way is as great as the file is long
-  pub numbers-below : (frames : List Frame) → Numbered file at frames → AllLie file frames → Below (length file) (upsOf frames)
-  unfolding extent
-  numbers-below [] n a = tt
-  numbers-below (x ∷ frames) n a =
-      all-append (λ x. x < length file) (upsOf frames) (x .number ∷ []) (numbers-below frames (n .1) (a .1))
-      (omega (arith, n .0, sibling-small file (arrayStart file at frames) (x .number), a .0 .itself), tt)
 
 -- the context at p is noted: the words lead to it
 module _ (file : List ℕ) (at : ℕ) (way : List ℕ) (up p : ℕ) (frames : List Frame) (deep : up ≡ length frames) (room : suc up < length way) where

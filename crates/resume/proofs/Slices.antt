@@ -87,7 +87,7 @@ module _ (path : List ℕ) (was : Slices) (l : List Entry) (e : Entry) where
   marks-by true f z = sym (marks-found path l e z (sym f))
   marks-by false f z = sym (marks-still path l e z (sym f))
 
-  more-by : (s : Slices) (k : ℕ) → Holds path was l s k → 0 < e .place → (found : Bool) → found ≡ samePath path (e .path)
+  more-by : (s : Slices) (k : ℕ) → Holds path was l s k → 0 < e .place → (found : Bool) → (k ≡ 0 → found ≡ samePath path (e .path))
       → (records : List ℕ) → RecordBy e k (s .records) records
       → Holds path was (snoc l e) (slices (listingMore k (e .place) (s .listing)) (set (s .table) (e .ctxId) (e .place)) records) (marksMore k found)
   unfolding listingMore marksMore
@@ -100,7 +100,7 @@ module _ (path : List ℕ) (was : Slices) (l : List Entry) (e : Entry) where
         filled = filled-more (s .table) (h .filled);
         recorded = r ∙ h .recorded ∙ none-recorded (was .records) (afterMark path l) before
             ∙ sym (none-recorded (was .records) (afterMark path (snoc l e)) behind);
-        counted = marks-by found f z;
+        counted = marks-by found (f refl) z;
         placed = placed-snoc l e (h .placed) y;
       }
   more-by s (suc n) h y found f records r =
@@ -117,7 +117,7 @@ module _ (path : List ℕ) (was : Slices) (l : List Entry) (e : Entry) where
 
 -- that at p
 pub one-more : {path : List ℕ} {was : Slices} {l : List Entry} {s : Slices} {k : ℕ} → Holds path was l s k → (file : List ℕ) (parent : ℕ)
-    (here : List ℕ) (p depth : ℕ) → 0 < p → length here ≡ depth → (found : Bool) → found ≡ samePath path here
+    (here : List ℕ) (p depth : ℕ) → 0 < p → length here ≡ depth → (found : Bool) → (k ≡ 0 → found ≡ samePath path here)
     → (records : List ℕ) → RecordMore file p depth k (s .records) records
     → Holds path was (snoc l (entryAt file parent here p))
     (slices (listingMore k p (s .listing)) (set (s .table) (field file p ctxId) p) records) (marksMore k found)

@@ -14,6 +14,7 @@ ghost use Rattle.open.specs.Opening.{field};
 ghost use Rattle.context.specs.Context.{ctxId};
 ghost use Rattle.context.specs.Sound.{targetsIn, Readable};
 ghost use Rattle.mark.specs.Mark.{markRoom, decode, isNamed, pathIn};
+ghost use Rattle.seek.specs.Seek.{stepped};
 ghost use Rattle.traversal.specs.Walk.{slices, slicesWithMark, marksWith, LeavesFrom, Leaves, itself};
 ghost use Rattle.resume.specs.Way.{endBelow, nextBelow, LiesBelow, NumberOf, Leads, MarkPut};
 ghost use Rattle.resume.specs.State.{RootsDone, AllDone, verdict, marksMore, listingMore, RecordMore, marksIn, settled};
@@ -115,6 +116,18 @@ fn next_to(file: &[u8], way: &[u64; WAY], up: usize) -> usize
     q + context::extent(file, q)
 }
 
+// Nothing is sought once the mark is passed.
+fn step_until_passed(mark: &[u8], seek: Seek, up: usize, k: usize) -> Seek
+    requires { ⌜ isNamed (decode (now mark)) ≡ true ⌝ }
+    requires { ⌜ (k ≡ 0 → seek .matched < length (pathIn (decode (now mark)))) ⌝ }
+    ensures { λ r. ⌜ r ≡ either (eqb k 0) (stepped (pathIn (decode (now (mark .entry)))) seek up) seek ⌝ }
+{
+    if k != 0 {
+        return seek;
+    }
+    seek::step(mark, seek, up)
+}
+
 // Depth 0 is passed before the first context.
 fn first_mark(marked: usize) -> usize
     ensures { λ r. ⌜ r ≡ either (eqb marked 0) 1 0 ⌝ }
@@ -157,30 +170,20 @@ fn contexts(
             up -= 1;
             p = next_to(file, way, up);
             end = end_of(file, stop, way, up);
-            seek = seek::left(mark, seek, up);
         } else {
             let depth = up + 1;
             let goes = judge(file, targets, depth, p, end, table, listing.len(), k);
             let Walked::Complete(_) = goes else {
                 return goes;
             };
-            let leads = seek::leads_to(mark, seek, up);
             keep(file, p, depth, table, way);
-            k = list(
-                file,
-                p,
-                depth,
-                leads & (marked == depth),
-                listing,
-                records,
-                k,
-            );
+            seek = step_until_passed(mark, seek, up, k);
+            let found = seek.matched == marked;
+            k = list(file, p, depth, found, listing, records, k);
             let bytes = le::load_u64(file, p) as usize;
             if bytes == 0 {
                 p += context::extent(file, p);
-                seek = seek::passed_by(seek, up);
             } else {
-                seek = seek::entered(seek, leads, up);
                 up = depth;
                 p = le::load_u64(file, p + 8) as usize;
                 end = p + bytes;

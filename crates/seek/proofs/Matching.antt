@@ -1,194 +1,179 @@
--- What is matched and seen at each step of a traversal: the common levels of the way down and the path, and next to them the number of the
--- sibling to come. So the next context leads to the mark's exactly if its path begins the mark's.
-use Prim.Native.Nat.{ℕ, zero, suc, _≤_, _<_}
+-- What is matched and seen is a function of the path and of the last context's path (`sought`): each step keeps it, by induction over the
+-- way down. So all levels match for the first time at the context that the path names.
+use Prim.Native.Nat.{ℕ, suc, _≤_, _<_}
 use mathlib.Core.Bool.{Bool, true, false, _&&_}
 use mathlib.Core.List.{List, [], _∷_}
 use mathlib.Core.Path.{_≡_, refl, sym, ap, _∙_}
 use native.Mathlib.Omega.{arith}
-use native.Mathlib.Nat.{not-suc-le-zero}
-use borrow.Author.Tests.{eqb-true, eqb-false, eq-eqb, ne-eqb, ltb-true, ltb-false}
-use lib.Dec.{eqb, ltb}
-use lib.ListN.{length, getD, length-append, List·getD-append}
+use borrow.Author.Tests.{eqb-true, eqb-false, eq-eqb, ne-eqb, ltb-true, ltb-false, lt-ltb, le-ltb}
+use lib.Dec.{eqb, ltb, eqb·suc-suc, leb·suc-suc}
+use lib.ListN.{length, getD}
 use Rattle.refusal.specs.Check.{either}
-use lib.Seq.{getD-append-seam}
-use Rattle.range.proofs.Tests.{both}
-use Rattle.seq.specs.Lists.{Below}
-use Rattle.layout.specs.Stands.{starts}
+use Rattle.traversal.specs.From.{samePath}
 use Rattle.traversal.proofs.Keeps.{snoc}
-use Rattle.traversal.proofs.Passing.{way-step}
 use Rattle.seek.specs.declared.Seek.{Seek}
-use Rattle.seek.specs.Seek.{seek, leadsTo, passedBy, entered, left, commonLevels, Seeks}
+use Rattle.seek.specs.Seek.{seek, stepped, deeper, sought, Seeks, Next}
 
--- ---- common levels
+-- ---- which context is next
 
-common-most : (ups path : List ℕ) → (commonLevels ups path ≤ length ups) × (commonLevels ups path ≤ length path)
-unfolding commonLevels either
-common-most [] path = (omega arith, omega arith)
-common-most (x ∷ ups) [] = (omega arith, omega arith)
-common-most (x ∷ ups) (y ∷ path) = go (eqb x y) (common-most ups path)
+pub next-child : (l : List ℕ) → Next l l 0
+next-child [] = refl
+next-child (x ∷ l) = (refl, next-child l)
+
+pub next-sibling : (ups : List ℕ) (i : ℕ) → Next (snoc ups i) ups (suc i)
+next-sibling [] i = refl
+next-sibling (x ∷ ups) i = (refl, next-sibling ups i)
+
+pub next-above : (last ups : List ℕ) (x i : ℕ) → Next last (snoc ups x) i → Next last ups (suc x)
+next-above [] [] x i n = absurd n
+next-above (y ∷ last) [] x i n = ap suc (sym (n .0))
+next-above [] (z ∷ ups) x i n = absurd n
+next-above (y ∷ last) (z ∷ ups) x i n = (n .0, next-above last ups x i (n .1))
+
+-- ---- a step
+
+pub sought-first : (path : List ℕ) → sought path [] ≡ seek 0 0
+unfolding sought
+sought-first [] = refl
+sought-first (y ∷ path) = refl
+
+pub sought-most : (path last : List ℕ) → sought path last .matched ≤ length path
+unfolding sought deeper either
+sought-most [] last = omega arith
+sought-most (y ∷ path) [] = omega arith
+sought-most (y ∷ path) (x ∷ last) = go (eqb x y) (sought-most path last)
   where
-    go : (b : Bool) → (commonLevels ups path ≤ length ups) × (commonLevels ups path ≤ length path)
-        → (either b (suc (commonLevels ups path)) 0 ≤ suc (length ups)) × (either b (suc (commonLevels ups path)) 0 ≤ suc (length path))
-    go true h = (omega (arith, h), omega (arith, h))
-    go false h = (omega arith, omega arith)
+    go : (b : Bool) → sought path last .matched ≤ length path
+        → either b (deeper (sought path last)) (seek 0 (suc (either (ltb x y) x y))) .matched ≤ suc (length path)
+    go true h = omega (arith, h)
+    go false h = omega arith
 
--- all of the way are common exactly if the path starts with it
-starts-common : (ups path : List ℕ) → starts ups path ≡ eqb (commonLevels ups path) (length ups)
-unfolding starts commonLevels either
-starts-common [] path = refl
-starts-common (x ∷ ups) [] = sym (ne-eqb 0 (suc (length ups)) (λ e. omega arith))
-starts-common (x ∷ ups) (y ∷ path) = go (eqb x y) (starts-common ups path)
-  where
-    go : (b : Bool) → starts ups path ≡ eqb (commonLevels ups path) (length ups)
-        → b && starts ups path ≡ eqb (either b (suc (commonLevels ups path)) 0) (suc (length ups))
-    go true h = h ∙ up (eqb (commonLevels ups path) (length ups)) refl
-      where
-        up : (c : Bool) → eqb (commonLevels ups path) (length ups) ≡ c → eqb (commonLevels ups path) (length ups) ≡ eqb (suc (commonLevels ups path)) (suc (length ups))
-        up true e = e ∙ sym (eq-eqb (suc (commonLevels ups path)) (suc (length ups)) (ap suc (eqb-true (commonLevels ups path) (length ups) e)))
-        up false e = e ∙ sym (ne-eqb (suc (commonLevels ups path)) (suc (length ups)) (λ d. eqb-false (commonLevels ups path) (length ups) e (omega arith)))
-    go false h = sym (ne-eqb 0 (suc (length ups)) (λ e. omega arith))
-
-either-suc : (b : Bool) (m n : ℕ) → suc (either b m n) ≡ either b (suc m) (suc n)
+-- one level deeper, it is the same step
+either-deeper : (b : Bool) (s t : Seek) → deeper (either b s t) ≡ either b (deeper s) (deeper t)
 unfolding either
-either-suc true m n = refl
-either-suc false m n = refl
+either-deeper true s t = refl
+either-deeper false s t = refl
 
--- one level more is common exactly if the path starts with it too
-common-snoc : (ups path : List ℕ) (i : ℕ) → commonLevels (snoc ups i) path ≡ either (starts (snoc ups i) path) (suc (length ups)) (commonLevels ups path)
-unfolding commonLevels starts either
-common-snoc [] [] i = refl
-common-snoc [] (y ∷ path) i = go (eqb i y)
+module _ (y : ℕ) (path : List ℕ) (s : Seek) (up : ℕ) where
+  step-deeper : stepped (y ∷ path) (deeper s) (suc up) ≡ deeper (stepped path s up)
+  unfolding stepped deeper
+  step-deeper =
+      ap (λ (b : Bool). either b (deeper s) then) (leb·suc-suc (suc (s .matched)) up)
+      ∙ ap (either (ltb (s .matched) up) (deeper s)) next
+      ∙ sym (either-deeper (ltb (s .matched) up) s _)
+    where
+      then : Seek
+      then = either (eqb (suc (s .matched)) (suc up) && eqb (s .seen) (getD path up 0)) (seek (suc (suc up)) 0)
+          (either (eqb (suc (s .matched)) (suc up) && ltb (s .seen) (getD path up 0)) (seek (suc up) (suc (s .seen)))
+          (seek (suc up) (suc (getD path up 0))))
+
+      next : then ≡ deeper (either (eqb (s .matched) up && eqb (s .seen) (getD path up 0)) (seek (suc up) 0)
+          (either (eqb (s .matched) up && ltb (s .seen) (getD path up 0)) (seek up (suc (s .seen))) (seek up (suc (getD path up 0)))))
+      next =
+          ap (λ (b : Bool). either (b && eqb (s .seen) (getD path up 0)) (seek (suc (suc up)) 0)
+          (either (b && ltb (s .seen) (getD path up 0)) (seek (suc up) (suc (s .seen))) (seek (suc up) (suc (getD path up 0))))) (eqb·suc-suc (s .matched) up)
+          ∙ ap (either (eqb (s .matched) up && eqb (s .seen) (getD path up 0)) (seek (suc (suc up)) 0))
+          (sym (either-deeper (eqb (s .matched) up && ltb (s .seen) (getD path up 0)) (seek up (suc (s .seen))) (seek up (suc (getD path up 0)))))
+          ∙ sym (either-deeper (eqb (s .matched) up && eqb (s .seen) (getD path up 0)) (seek (suc up) 0) _)
+
+-- at a root, the first or the next
+module _ (y : ℕ) (path : List ℕ) where
+  abbrev root : ℕ → Seek
+  root i = either (eqb i y) (deeper (sought path [])) (seek 0 (suc (either (ltb i y) i y)))
+
+  -- none was visited, or one that is not on the path
+  root-step : (i seen : ℕ) → (i ≤ y → seen ≡ i) → (y < i → seen ≡ suc y) → stepped (y ∷ path) (seek 0 seen) 0 ≡ root i
+  unfolding stepped deeper either
+  root-step i seen before after = go (eqb i y) refl (ltb i y) refl
+    where
+      go : (a : Bool) → eqb i y ≡ a → (b : Bool) → ltb i y ≡ b → stepped (y ∷ path) (seek 0 seen) 0 ≡ root i
+      go true e b f =
+          let same = eqb-true i y e in
+          rw (before (omega (arith, same)), same, eq-eqb y y refl, sought-first path)
+      go false e true f =
+          let less = ltb-true i y f in
+          rw (before (omega (arith, less)), e, f)
+      go false e false f =
+          let more : y < i = omega (arith, ltb-false i y f, eqb-false i y e) in
+          rw (after more, e, f, ne-eqb (suc y) y (λ h. omega (arith, h)), le-ltb (suc y) y (omega arith))
+
+  -- one was visited that is on the path
+  root-after : (x : ℕ) (s : Seek) → x ≡ y → stepped (y ∷ path) (deeper s) 0 ≡ root (suc x)
+  unfolding stepped deeper either
+  root-after x s e = rw (
+    e,
+    ne-eqb (suc y) y (λ h. omega (arith, h)),
+    le-ltb (suc y) y (omega arith),
+    ne-eqb (suc (s .matched)) 0 (λ h. omega (arith, h)),
+    le-ltb (suc (s .matched)) 0 (omega arith),
+  )
+
+pub sought-next : (path last ups : List ℕ) (i : ℕ) → Next last ups i → sought path last .matched < length path
+    → stepped path (sought path last) (length ups) ≡ sought path (snoc ups i)
+unfolding sought stepped deeper either
+sought-next [] last ups i n h = absurd (omega (arith, h))
+sought-next (y ∷ path) [] [] i n h = rw n (root-step y path 0 0 (λ q. refl) (λ q. absurd (omega (arith, q))))
+sought-next (y ∷ path) (x ∷ last) [] i n h = rw n (go (eqb x y) refl (ltb x y) refl)
   where
-    go : (b : Bool) → _≡_ {A = ℕ} (either b 1 0) (either (b && true) 1 0)
-    go true = refl
-    go false = refl
-common-snoc (x ∷ ups) [] i = refl
-common-snoc (x ∷ ups) (y ∷ path) i = go (eqb x y) (common-snoc ups path i)
+    go : (a : Bool) → eqb x y ≡ a → (b : Bool) → ltb x y ≡ b
+        → stepped (y ∷ path) (either a (deeper (sought path last)) (seek 0 (suc (either b x y)))) 0 ≡ root y path (suc x)
+    go true e b f = root-after y path x (sought path last) (eqb-true x y e)
+    go false e true f = root-step y path (suc x) (suc x) (λ q. refl) (λ q. absurd (omega (arith, q, ltb-true x y f)))
+    go false e false f = root-step y path (suc x) (suc y) (λ q. absurd (omega (arith, q, ltb-false x y f))) (λ q. refl)
+sought-next (y ∷ path) [] (z ∷ ups) i n h = absurd n
+sought-next (y ∷ path) (x ∷ last) (z ∷ ups) i n h = rw (← n .0) (go (eqb x y) h (sought-next path last ups i (n .1)))
   where
-    go : (b : Bool) → commonLevels (snoc ups i) path ≡ either (starts (snoc ups i) path) (suc (length ups)) (commonLevels ups path)
-        → either b (suc (commonLevels (snoc ups i) path)) 0
-        ≡ either (b && starts (snoc ups i) path) (suc (suc (length ups))) (either b (suc (commonLevels ups path)) 0)
-    go true h = ap suc h ∙ either-suc (starts (snoc ups i) path) (suc (length ups)) (commonLevels ups path)
-    go false h = refl
+    go : (a : Bool) → either a (deeper (sought path last)) (seek 0 (suc (either (ltb x y) x y))) .matched < suc (length path)
+        → (sought path last .matched < length path → stepped path (sought path last) (length ups) ≡ sought path (snoc ups i))
+        → stepped (y ∷ path) (either a (deeper (sought path last)) (seek 0 (suc (either (ltb x y) x y)))) (suc (length ups))
+        ≡ either a (deeper (sought path (snoc ups i))) (seek 0 (suc (either (ltb x y) x y)))
+    go true q step = step-deeper y path (sought path last) (length ups) ∙ ap deeper (step (omega (arith, q)))
+    go false q step = rw (lt-ltb 0 (suc (length ups)) (omega arith))
 
--- a number of a way with one level more
-last-number : (ups : List ℕ) (i : ℕ) → getD (snoc ups i) (length ups) 0 ≡ i
-last-number ups i = getD-append-seam ups i [] 0
+-- ---- the path's own context
 
-other-number : (ups : List ℕ) (i k : ℕ) → k < length ups → getD (snoc ups i) k 0 ≡ getD ups k 0
-other-number ups i k h = List·getD-append ups (i ∷ []) 0 k h
+same-root : (path : List ℕ) → eqb 1 (suc (length path)) ≡ samePath path []
+unfolding samePath
+same-root [] = refl
+same-root (y ∷ path) = ne-eqb 1 (suc (suc (length path))) (λ h. omega (arith, h))
 
-length-snoc : (ups : List ℕ) (i : ℕ) → length (snoc ups i) ≡ suc (length ups)
-length-snoc ups i = omega (arith, length-append ups (i ∷ []))
-
--- ---- at each step
-
-pub seeks-start : (path : List ℕ) → Seeks path [] 0 (seek 0 0)
-unfolding commonLevels
-seeks-start path = record { matches = refl; here = λ e. refl; above = λ h. absurd (not-suc-le-zero h) }
-
-module _ (path ups : List ℕ) (i : ℕ) (s : Seek) (k : Seeks path ups i s) where
-  deep : s .matched ≤ length ups
-  deep = omega (arith, k .matches, common-most ups path .0)
-
-  pub seeks-inside : s .matched ≤ length path
-  seeks-inside = omega (arith, k .matches, common-most ups path .1)
-
-  pub seeks-leads : leadsTo path s (length ups) ≡ starts (snoc ups i) path
-  unfolding leadsTo
-  seeks-leads =
-      go (eqb (s .matched) (length ups)) refl
-      ∙ sym (way-step ups path i ∙ ap (λ (b : Bool). b && (ltb (length ups) (length path) && eqb i (getD path (length ups) 0)))
-      (starts-common ups path ∙ ap (λ (n : ℕ). eqb n (length ups)) (sym (k .matches))))
-    where
-      go : (b : Bool) → eqb (s .matched) (length ups) ≡ b
-          → eqb (s .matched) (length ups) && (ltb (length ups) (length path) && eqb (s .seen) (getD path (length ups) 0))
-          ≡ eqb (s .matched) (length ups) && (ltb (length ups) (length path) && eqb i (getD path (length ups) 0))
-      go true e = rw (k .here (eqb-true (s .matched) (length ups) e))
-      go false e = rw e
-
-  -- by a context without children
-  pub seeks-by : Seeks path ups (suc i) (passedBy s (length ups))
-  unfolding passedBy either
-  seeks-by = go (eqb (s .matched) (length ups)) refl
-    where
-      go : (b : Bool) → eqb (s .matched) (length ups) ≡ b → Seeks path ups (suc i) (either b (seek (length ups) (suc (s .seen))) s)
-      go true e =
-          let same = eqb-true (s .matched) (length ups) e in
-          record { matches = sym same ∙ k .matches; here = λ h. ap suc (k .here same); above = λ h. absurd (omega arith) }
-      go false e = record { matches = k .matches; here = λ h. absurd (eqb-false (s .matched) (length ups) e h); above = k .above }
-
-  -- into the children of one
-  pub seeks-into : Seeks path (snoc ups i) 0 (entered s (leadsTo path s (length ups)) (length ups))
-  unfolding entered passedBy either
-  seeks-into = go (leadsTo path s (length ups)) seeks-leads (eqb (s .matched) (length ups)) refl
-    where
-      long : length (snoc ups i) ≡ suc (length ups)
-      long = length-snoc ups i
-
-      go : (b : Bool) → b ≡ starts (snoc ups i) path → (c : Bool) → eqb (s .matched) (length ups) ≡ c
-          → Seeks path (snoc ups i) 0 (either b (seek (suc (length ups)) 0) (either c (seek (length ups) (suc (s .seen))) s))
-      go true e c h = record {
-        matches = sym (common-snoc ups path i ∙ rw (← e));
-        here = λ z. refl;
-        above = λ z. absurd (omega (arith, long));
-      }
-      go false e true h =
-          let same = eqb-true (s .matched) (length ups) h in
-          record {
-            matches = sym same ∙ k .matches ∙ sym (common-snoc ups path i ∙ rw (← e));
-            here = λ z. absurd (omega (arith, long));
-            above = λ z. ap suc (k .here same ∙ sym (last-number ups i));
-          }
-      go false e false h = record {
-        matches = k .matches ∙ sym (common-snoc ups path i ∙ rw (← e));
-        here = λ z. absurd (omega (arith, long, deep));
-        above = λ z.
-            let less : s .matched < length ups = omega (arith, deep, eqb-false (s .matched) (length ups) h) in
-            k .above less ∙ ap suc (sym (other-number ups i (s .matched) less));
-      }
-
-  -- no more is seen than the numbers on the way, and the next, say
-  pub seeks-small : (b : ℕ) → i ≤ b → Below b ups → s .seen ≤ b
-  seeks-small b h below = go (eqb (s .matched) (length ups)) refl
-    where
-      number-below : (l : List ℕ) (n : ℕ) → n < length l → Below b l → getD l n 0 < b
-      number-below [] n q w = absurd (not-suc-le-zero q)
-      number-below (x ∷ l) zero q w = w .0
-      number-below (x ∷ l) (suc n) q w = number-below l n (omega arith) (w .1)
-
-      go : (c : Bool) → eqb (s .matched) (length ups) ≡ c → s .seen ≤ b
-      go true e = omega (arith, k .here (eqb-true (s .matched) (length ups) e))
-      go false e =
-          let less : s .matched < length ups = omega (arith, deep, eqb-false (s .matched) (length ups) e) in
-          omega (arith, k .above less, number-below ups (s .matched) less below)
-
--- back from them
-pub seeks-back : (path ups : List ℕ) (i j : ℕ) (s : Seek) → Seeks path (snoc ups i) j s → Seeks path ups (suc i) (left path s (length ups))
-unfolding left either
-seeks-back path ups i j s k = go (ltb (length ups) (s .matched)) refl (starts (snoc ups i) path) refl
+-- where not all levels match at the last context, they do at the next exactly if that is the path's own
+pub sought-found : (path last ups : List ℕ) (i : ℕ) → Next last ups i → sought path last .matched < length path
+    → eqb (sought path (snoc ups i) .matched) (length path) ≡ samePath path (snoc ups i)
+unfolding sought deeper either samePath
+sought-found [] last ups i n h = absurd (omega (arith, h))
+sought-found (y ∷ path) last [] i n h = go (eqb i y) refl
   where
-    long : length (snoc ups i) ≡ suc (length ups)
-    long = length-snoc ups i
+    go : (a : Bool) → eqb i y ≡ a
+        → eqb (either a (deeper (sought path [])) (seek 0 (suc (either (ltb i y) i y))) .matched) (suc (length path)) ≡ eqb y i && samePath path []
+    go true e = rw (sought-first path, eqb-true i y e, eq-eqb y y refl) (same-root path)
+    go false e = rw (ne-eqb 0 (suc (length path)) (λ h. omega (arith, h)), ne-eqb y i (λ h. eqb-false i y e (sym h)))
+sought-found (y ∷ path) [] (z ∷ ups) i n h = absurd n
+sought-found (y ∷ path) (x ∷ last) (z ∷ ups) i n h = rw (← n .0) (go (eqb x y) refl h (sought-found path last ups i (n .1)))
+  where
+    go : (a : Bool) → eqb x y ≡ a → either a (deeper (sought path last)) (seek 0 (suc (either (ltb x y) x y))) .matched < suc (length path)
+        → (sought path last .matched < length path → eqb (sought path (snoc ups i) .matched) (length path) ≡ samePath path (snoc ups i))
+        → eqb (either a (deeper (sought path (snoc ups i))) (seek 0 (suc (either (ltb x y) x y))) .matched) (suc (length path))
+        ≡ eqb y x && samePath path (snoc ups i)
+    go true e q found =
+        eqb·suc-suc (sought path (snoc ups i) .matched) (length path) ∙ found (omega (arith, q))
+        ∙ ap (λ (b : Bool). b && samePath path (snoc ups i)) (sym (eq-eqb y x (sym (eqb-true x y e))))
+    go false e q found = rw (ne-eqb 0 (suc (length path)) (λ h. omega (arith, h)), ne-eqb y x (λ h. eqb-false x y e (sym h)))
 
-    go : (b : Bool) → ltb (length ups) (s .matched) ≡ b → (c : Bool) → starts (snoc ups i) path ≡ c
-        → Seeks path ups (suc i) (either b (seek (length ups) (suc (getD path (length ups) 0))) s)
-    go true e true h =
-        let on = both (starts ups path) (ltb (length ups) (length path) && eqb i (getD path (length ups) 0)) .0 (sym (way-step ups path i) ∙ h) in
-        let same = both (ltb (length ups) (length path)) (eqb i (getD path (length ups) 0)) .0 (on .1) in
-        record {
-          matches = sym (eqb-true (commonLevels ups path) (length ups) (sym (starts-common ups path) ∙ on .0));
-          here = λ z. ap suc (sym (eqb-true i (getD path (length ups) 0) (same .1)));
-          above = λ z. absurd (omega arith);
-        }
-    go true e false h =
-        let m : s .matched ≡ commonLevels ups path = k .matches ∙ common-snoc ups path i ∙ rw h in
-        absurd (omega (arith, ltb-true (length ups) (s .matched) e, m, common-most ups path .0))
-    go false e true h =
-        let m : s .matched ≡ suc (length ups) = k .matches ∙ common-snoc ups path i ∙ rw h in
-        absurd (omega (arith, ltb-false (length ups) (s .matched) e, m))
-    go false e false h = record {
-      matches = k .matches ∙ common-snoc ups path i ∙ rw h;
-      here = λ z. k .above (omega (arith, long, z)) ∙ ap suc (ap (λ (n : ℕ). getD (snoc ups i) n 0) z ∙ last-number ups i);
-      above = λ z. k .above (omega (arith, long, z)) ∙ ap suc (other-number ups i (s .matched) z);
-    }
+-- ---- as long as not all levels match
+
+pub seeks-start : (path : List ℕ) → 0 < length path → Seeks path [] (seek 0 0)
+seeks-start path h = record { is = sym (sought-first path); not-all = h }
+
+module _ (path last ups : List ℕ) (i : ℕ) (s : Seek) (n : Next last ups i) (k : Seeks path last s) where
+  here : stepped path s (length ups) ≡ sought path (snoc ups i)
+  here = rw (k .is) (sought-next path last ups i n (rw (← k .is) (k .not-all)))
+
+  pub seeks-found : eqb (stepped path s (length ups) .matched) (length path) ≡ samePath path (snoc ups i)
+  seeks-found = rw here (sought-found path last ups i n (rw (← k .is) (k .not-all)))
+
+  pub seeks-on : eqb (stepped path s (length ups) .matched) (length path) ≡ false → Seeks path (snoc ups i) (stepped path s (length ups))
+  seeks-on f = record {
+    is = here;
+    not-all = omega (arith, ap (λ (x : Seek). x .matched) here, sought-most path (snoc ups i), eqb-false (stepped path s (length ups) .matched) (length path) f);
+  }

@@ -1,7 +1,7 @@
--- How a traversal finds the context that a path names: by the levels of the way down that are on the path (`matched`), and the number of
--- siblings visited on the next level (`seen`).
+-- How a traversal finds the context that a path names: by the levels of the path that the way down is on (`matched`), and the number of
+-- siblings visited on the next level, as far as that is the path's own or one more (`seen`).
 use Prim.Native.Nat.{ℕ, suc, _<_}
-use mathlib.Core.Bool.{Bool, _&&_}
+use mathlib.Core.Bool.{_&&_}
 use mathlib.Core.List.{List, [], _∷_}
 use mathlib.Core.Path.{_≡_}
 use lib.Dec.{eqb, ltb}
@@ -12,27 +12,31 @@ use Rattle.seek.specs.declared.Seek.{Seek}
 abbrev pub seek : (matched seen : ℕ) → Seek
 seek matched seen = record { matched = matched; seen = seen }
 
-unfoldable pub leadsTo : (path : List ℕ) → Seek → (up : ℕ) → Bool
-leadsTo path s up = eqb (s .matched) up && (ltb up (length path) && eqb (s .seen) (getD path up 0))
+-- at the next context, which is below `up` others: it is below one that is not on the path; or on the path; or before it; or after it
+unfoldable pub stepped : (path : List ℕ) → Seek → (up : ℕ) → Seek
+stepped path s up =
+    either (ltb (s .matched) up) s
+    (either (eqb (s .matched) up && eqb (s .seen) (getD path up 0)) (seek (suc up) 0)
+    (either (eqb (s .matched) up && ltb (s .seen) (getD path up 0)) (seek up (suc (s .seen)))
+    (seek up (suc (getD path up 0)))))
 
-unfoldable pub passedBy : Seek → (up : ℕ) → Seek
-passedBy s up = either (eqb (s .matched) up) (seek up (suc (s .seen))) s
+-- ---- what it is after the context with the path `last`, or before the first, where `last` is empty
 
-unfoldable pub entered : Seek → (leads : Bool) → (up : ℕ) → Seek
-entered s leads up = either leads (seek (suc up) 0) (passedBy s up)
+unfoldable pub deeper : Seek → Seek
+deeper s = seek (suc (s .matched)) (s .seen)
 
-unfoldable pub left : (path : List ℕ) → Seek → (up : ℕ) → Seek
-left path s up = either (ltb up (s .matched)) (seek up (suc (getD path up 0))) s
+unfoldable pub sought : (path last : List ℕ) → Seek
+sought [] last = seek 0 0
+sought (y ∷ path) [] = seek 0 0
+sought (y ∷ path) (x ∷ last) = either (eqb x y) (deeper (sought path last)) (seek 0 (suc (either (ltb x y) x y)))
 
--- ---- what they are, by the way down `ups` and the number i of the next sibling there
+pub record Seeks (path last : List ℕ) (s : Seek) : Type 0 where
+  pub is : s ≡ sought path last
+  pub not-all : s .matched < length path
 
--- how many levels two paths have in common from the first on
-unfoldable pub commonLevels : (ups path : List ℕ) → ℕ
-commonLevels [] path = 0
-commonLevels (x ∷ ups) [] = 0
-commonLevels (x ∷ ups) (y ∷ path) = either (eqb x y) (suc (commonLevels ups path)) 0
-
-pub record Seeks (path ups : List ℕ) (i : ℕ) (s : Seek) : Type 0 where
-  pub matches : s .matched ≡ commonLevels ups path
-  pub here : s .matched ≡ length ups → s .seen ≡ i
-  pub above : s .matched < length ups → s .seen ≡ suc (getD ups (s .matched) 0)
+-- the context that is number i below the way `ups` comes next to that: as its first child, or as the next sibling of it or of one above it
+abbrev pub Next : (last ups : List ℕ) (i : ℕ) → Type 0
+Next [] [] i = i ≡ 0
+Next (x ∷ last) [] i = i ≡ suc x
+Next [] (y ∷ ups) i = ⊥
+Next (x ∷ last) (y ∷ ups) i = (x ≡ y) × Next last ups i

@@ -1,18 +1,16 @@
 -- How a mark is passed as contexts are visited one by one: once passed it stays where it is, and those after it follow one another; till
--- then it is passed by the context that has its path. And the way to that context, level by level.
+-- then it is passed by the context that has its path.
 use Prim.Native.Nat.{ℕ, zero, suc, _-_, _≤_, _<_}
-use mathlib.Core.Bool.{Bool, true, false, _&&_, and-true, and-assoc}
+use mathlib.Core.Bool.{Bool, true, false}
 use mathlib.Core.List.{List, [], _∷_, _++_, map, map-append}
 use mathlib.Core.Logic.{_↔_}
-use mathlib.Core.Path.{_≡_, refl, sym, ap, ap₂, _∙_}
+use mathlib.Core.Path.{_≡_, refl, sym, ap, _∙_}
 use native.Mathlib.Omega.{arith}
 use native.Mathlib.Nat.{not-suc-le-zero, le-of-suc-le-suc}
-use borrow.Author.Tests.{leb-true, leb-false, le-leb, lt-leb, lt-ltb, eqb-true, eqb-false, eq-eqb, ne-eqb}
-use lib.Dec.{ltb, eqb, leb·suc-suc, eqb·suc-suc, eqb·suc-zero}
-use lib.ListN.{length, getD, length-append, length-map, length-drop, drop-of-length-le}
+use borrow.Author.Tests.{leb-true, leb-false, le-leb, lt-leb}
+use lib.ListN.{length, length-append, length-map, length-drop, drop-of-length-le}
 use lib.Seq.{drop-append-le}
 use Rattle.refusal.specs.Check.{either}
-use Rattle.layout.specs.Stands.{starts}
 use Rattle.context.specs.Entry.{Entry}
 use Rattle.traversal.specs.From.{pathOf, samePath, marksOf, pathIndex, skipped, isPassed, afterMark, marksFrom}
 use Rattle.traversal.proofs.Keeps.{snoc}
@@ -170,33 +168,3 @@ module _ (path : List ℕ) where
         go zero h true s = omega (arith, marks-found h s)
         go zero h false s = omega (arith, marks-still h s)
         go (suc k) h b s = omega (arith, marks-more (omega arith))
-
--- ---- the way to a mark's context: whether a way down leads to it is known from the level above and one number of the path
-
-eqb-comm : (x y : ℕ) → eqb x y ≡ eqb y x
-eqb-comm x y = go (eqb x y) refl
-  where
-    go : (b : Bool) → eqb x y ≡ b → eqb x y ≡ eqb y x
-    go true e = e ∙ sym (eq-eqb y x (sym (eqb-true x y e)))
-    go false e = e ∙ sym (ne-eqb y x (λ d. eqb-false x y e (sym d)))
-
-pub way-step : (ups path : List ℕ) (i : ℕ)
-    → starts (snoc ups i) path ≡ starts ups path && (ltb (length ups) (length path) && eqb i (getD path (length ups) 0))
-unfolding starts
-way-step [] [] i = refl
-way-step [] (y ∷ ys) i = and-true (eqb i y) ∙ ap (λ (t : Bool). t && eqb i y) (sym (lt-ltb 0 (suc (length ys)) (omega arith)))
-way-step (x ∷ ups) [] i = refl
-way-step (x ∷ ups) (y ∷ ys) i =
-    ap (λ (t : Bool). eqb x y && t) (way-step ups ys i)
-    ∙ sym (and-assoc (eqb x y) (starts ups ys) (ltb (length ups) (length ys) && eqb i (getD ys (length ups) 0)))
-    ∙ ap (λ (t : Bool). (eqb x y && starts ups ys) && (t && eqb i (getD ys (length ups) 0))) (sym (leb·suc-suc (suc (length ups)) (length ys)))
-
--- it is the context itself where the way has the path's length too
-pub same-step : (path q : List ℕ) → samePath path q ≡ starts q path && eqb (length path) (length q)
-unfolding samePath starts
-same-step [] [] = refl
-same-step [] (y ∷ q) = refl
-same-step (x ∷ p) [] = sym (eqb·suc-zero (length p))
-same-step (x ∷ p) (y ∷ q) =
-    ap₂ _&&_ (eqb-comm x y) (same-step p q ∙ ap (λ (t : Bool). starts q p && t) (sym (eqb·suc-suc (length p) (length q))))
-    ∙ sym (and-assoc (eqb y x) (starts q p) (eqb (suc (length p)) (suc (length q))))

@@ -36,14 +36,14 @@ pub fn visit_check(
     requires { ⌜ Readable (now file) p ⌝ }
     ensures { λ r. ⌜ r ≡ checksAfter10 (now (file .entry)) (targetsIn (now (targets .entry))) depth p (now (table .entry)) ⌝ }
 {
-    let links = context::links_rule(file, targets, p);
-    let children = context::children_rule(file, targets, p);
+    if !context::links_rule(file, targets, p) {
+        return Check::Refused(Refusal::Link);
+    }
+    if !context::children_rule(file, targets, p) {
+        return Check::Refused(Refusal::Array);
+    }
     let id = le::load_u32(file, p + CTX_ID) as usize;
-    let slot = slot_check(table, depth, id);
-    refusal::first(
-        refusal::rule(links, Refusal::Link),
-        refusal::first(refusal::rule(children, Refusal::Array), slot),
-    )
+    slot_check(table, depth, id)
 }
 
 // The n-th record, where there is room for all of it.

@@ -1,4 +1,5 @@
 -- By whether it is present; then it stands inside the words that the flags need.
+use mathlib.Core.Path.{sym, _∙_}
 use Rattle.refusal.specs.Check.{either}
 use native.Mathlib.Omega.{arith}
 use Rattle.context.proofs.Laws.{field-inside}
@@ -16,7 +17,7 @@ mul-load-u32 c =
     let good = c .before .before .before .before .good in
     omega (
       arith,
-      field-inside (args .flags) 2 (before2 .result) (has-source .result) (omega arith) (has-source .ensures) (if1 .taken) (before2 .ensures),
+      field-inside (args .flags) 2 (before2 .result) (omega arith) (sym (has-source .ensures) ∙ if1 .taken) (before2 .ensures),
       pre,
       good,
     )
@@ -31,7 +32,7 @@ add-load-u32-2 c =
     let good = c .before .before .before .before .good in
     omega (
       arith,
-      field-inside (args .flags) 2 (before2 .result) (has-source .result) (omega arith) (has-source .ensures) (if1 .taken) (before2 .ensures),
+      field-inside (args .flags) 2 (before2 .result) (omega arith) (sym (has-source .ensures) ∙ if1 .taken) (before2 .ensures),
       pre,
       good,
     )
@@ -45,7 +46,7 @@ load-u32-requires c κs =
     let pre = c .before .before .before .before .pre in
     omega (
       arith,
-      field-inside (args .flags) 2 (before2 .result) (has-source .result) (omega arith) (has-source .ensures) (if1 .taken) (before2 .ensures),
+      field-inside (args .flags) 2 (before2 .result) (omega arith) (sym (has-source .ensures) ∙ if1 .taken) (before2 .ensures),
       pre,
     )
 

@@ -6,46 +6,43 @@ use borrow.Author.Needs.{needs}
 use Rattle.context.proofs.links_rule.Statement.{statement}
 use Rattle.context.proofs.links_rule.Tie as tie
 
-flex-word-requires : tie.Need-flex-word-requires
+link-rule-requires : tie.Need-link-rule-requires
 unfolding field
-flex-word-requires c κs =
-    let load-u8 = c .before .before .before .load-u8 in
-    let pre = c .before .before .before .before .before .pre in
-    let has-function = c .before .before .has-function in
+link-rule-requires c κs =
+    let load-u8 = c .before .before .before .before .before .before .load-u8 in
+    let pre = c .before .before .before .before .before .before .before .before .pre in
+    let has-function = c .before .before .before .before .before .has-function in
     (rw (load-u8 .ensures) (pre .ends), (omega arith, has-function .ensures))
 
-flex-word-requires-2 : tie.Need-flex-word-requires-2
+link-rule-requires-2 : tie.Need-link-rule-requires-2
 unfolding field
-flex-word-requires-2 c κs =
-    let load-u8 = c .before .before .before .before .load-u8 in
-    let pre = c .before .before .before .before .before .before .pre in
-    let has-source = c .before .before .has-source in
+link-rule-requires-2 c κs =
+    let load-u8 = c .before .before .before .before .before .before .before .load-u8 in
+    let pre = c .before .before .before .before .before .before .before .before .before .pre in
+    let has-source = c .before .before .before .before .before .has-source in
     (rw (load-u8 .ensures) (pre .ends), (omega arith, has-source .ensures))
 
-flex-word-requires-3 : tie.Need-flex-word-requires-3
+link-rule-requires-3 : tie.Need-link-rule-requires-3
 unfolding field
-flex-word-requires-3 c κs =
-    let load-u8 = c .before .before .before .before .before .load-u8 in
-    let pre = c .before .before .before .before .before .before .before .pre in
-    let has-point = c .before .before .has-point in
+link-rule-requires-3 c κs =
+    let load-u8 = c .before .before .before .before .before .before .before .before .load-u8 in
+    let pre = c .before .before .before .before .before .before .before .before .before .before .pre in
+    let has-point = c .before .before .before .before .before .has-point in
     (rw (load-u8 .ensures) (pre .ends), (omega arith, has-point .ensures))
 
 returns : tie.Need-returns
 unfolding linksRule flexAt field
 returns c =
-    let link-rule = c .before .before .before .before .link-rule in
-    let link-rule2 = c .before .before .link-rule2 in
+    let link-rule = c .before .before .link-rule in
+    let link-rule2 = c .before .link-rule2 in
     let link-rule3 = c .link-rule3 in
     let array-in = c .before .before .before .before .before .array-in in
-    let array-in2 = c .before .before .before .array-in2 in
-    let array-in3 = c .before .array-in3 in
-    let flex-word = c .before .before .before .before .before .before .before .before .flex-word in
-    let flex-word2 = c .before .before .before .before .before .before .before .flex-word2 in
-    let flex-word3 = c .before .before .before .before .before .before .flex-word3 in
-    let has-function = c .before .before .before .before .before .before .before .before .before .before .before .has-function in
-    let has-source = c .before .before .before .before .before .before .before .before .before .before .has-source in
-    let has-point = c .before .before .before .before .before .before .before .before .before .has-point in
-    let load-u8 = c .before .before .before .before .before .before .before .before .before .before .before .before .load-u8 in
+    let array-in2 = c .before .before .before .before .array-in2 in
+    let array-in3 = c .before .before .before .array-in3 in
+    let has-function = c .before .before .before .before .before .before .before .before .has-function in
+    let has-source = c .before .before .before .before .before .before .before .has-source in
+    let has-point = c .before .before .before .before .before .before .has-point in
+    let load-u8 = c .before .before .before .before .before .before .before .before .before .load-u8 in
     rw (
       link-rule .ensures,
       link-rule2 .ensures,
@@ -53,9 +50,6 @@ returns c =
       array-in .ensures,
       array-in2 .ensures,
       array-in3 .ensures,
-      flex-word .ensures,
-      flex-word2 .ensures,
-      flex-word3 .ensures,
       has-function .ensures,
       has-source .ensures,
       has-point .ensures,
@@ -71,13 +65,10 @@ links-rule-spec =
     (λ c κs. search needs)
     (λ c κs. search needs)
     (λ c κs. search needs)
-    flex-word-requires
-    flex-word-requires-2
-    flex-word-requires-3
     (λ c κs. search needs)
     (λ c κs. search needs)
     (λ c κs. search needs)
-    (λ c κs. search needs)
-    (λ c κs. search needs)
-    (λ c κs. search needs)
+    link-rule-requires
+    link-rule-requires-2
+    link-rule-requires-3
     returns)

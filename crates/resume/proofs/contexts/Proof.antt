@@ -1,7 +1,6 @@
 -- The loop keeps `Flat`: by whether the array is done, and what the verdict on the next context is. Twice the free slots of the table
 -- and the depth fall.
 use Prim.Native.Nat.{ℕ, suc, _+_, _*_, _-_, _≤_, _<_}
-use mathlib.Core.Bool.{_&&_}
 use mathlib.Core.List.{List, [], _∷_}
 use mathlib.Core.Logic.{⊎-elim}
 use mathlib.Core.Path.{_≡_, refl, ap, _∙_}
@@ -12,6 +11,7 @@ use native.Mathlib.Omega.{arith}
 use lib.Dec.{eqb}
 use lib.ListN.{length, getD, set, length-set, length-replicate}
 use borrow.Author.Needs.{needs}
+use Rattle.refusal.specs.Check.{either}
 use Rattle.open.specs.Opening.{field}
 use Rattle.context.specs.Context.{childrenBytes, ctxId, extent}
 use Rattle.context.specs.Sound.{targetsIn}
@@ -23,10 +23,8 @@ use Rattle.traversal.specs.Walk.{slices, unmarked}
 use Rattle.traversal.proofs.Walked.{the-type as walked-type}
 use Rattle.traversal.proofs.Steps.{takes-some}
 use Rattle.visit.proofs.Checks.{place-read, bytes-read}
-use Rattle.seek.proofs.Matching.{seeks-inside}
 use Rattle.resume.proofs.Slices.{start}
-use Rattle.resume.proofs.Frames.{upsOf}
-use Rattle.resume.proofs.Flat.{Flat, flat-start, inside, seen-small, flat-whole, flat-pop, flat-stops, flat-goes, flat-sound, flat-leaf, flat-down}
+use Rattle.resume.proofs.Flat.{Flat, flat-start, inside, flat-whole, flat-pop, flat-stops, flat-goes, flat-sound, flat-leaf, flat-down}
 use Rattle.resume.proofs.Free.{freeSlots, fills}
 use Rattle.resume.proofs.contexts.Statement.{statement}
 use Rattle.resume.proofs.contexts.Tie as tie
@@ -66,7 +64,8 @@ loop-holds c =
       pre .0 .0,
       ap length (clear .1) ∙ length-replicate {A = ℕ} 201 0,
       λ m b. flat-start file t path was (args .at) (args .stop) m b was (now (args .way)) (first-mark .result)
-          (rw (first-mark .ensures, depth .ensures) (start path was (now (args .table)) (clear .0))) (rw (clear .1)),
+          (rw (first-mark .ensures, depth .ensures) (start path was (now (args .table)) (clear .0)))
+          (first-mark .ensures ∙ ap (λ (n : ℕ). either (eqb n 0) 1 0) (depth .ensures)) (rw (clear .1)),
     )
 
 same-length : tie.Need-same-length Inv-loop μ-loop
@@ -130,29 +129,19 @@ end-of-requires c κs =
     let popped = flat-pop file t path was (args .at) (args .stop) unmarked 0 s (loop .way) (loop .up) (loop .p) (loop .end) (loop .k) (loop .seek) (loop .inv .5 unmarked 0) (if1 .taken) (if2 .left) in
     (omega (arith, loop .inv .5 unmarked 0 .shallow), popped .above)
 
-left-requires : tie.Need-left-requires Inv-loop μ-loop
-left-requires c κs =
-    let args = c .before .before .before .before .before .before .before .before .before .before .before .before .before .before .args in
-    let loop = c .before .before .before .before .before .before .loop in
-    let pre = c .before .before .before .before .before .before .before .before .before .before .before .before .before .before .pre in
-    let path = pathIn (decode (now (args .mark))) in
-    let flat = loop .inv .5 unmarked 0 in
-    (pre .1 .0, seeks-inside path (upsOf (flat .frames)) (flat .i) (loop .seek) (flat .seeks))
-
 loop-less : tie.Need-loop-less Inv-loop μ-loop
 loop-less c =
-    let if2 = c .before .before .before .before .before .if2 in
+    let if2 = c .before .before .before .before .if2 in
     omega (arith, if2 .left)
 
 loop-again : tie.Need-loop-again Inv-loop μ-loop
 loop-again c =
-    let args = c .before .before .before .before .before .before .before .before .before .before .before .before .before .before .before .args in
-    let loop = c .before .before .before .before .before .before .before .loop in
-    let next-to = c .before .before .before .next-to in
-    let if1 = c .before .before .before .before .before .before .if1 in
-    let if2 = c .before .before .before .before .before .if2 in
-    let end-of = c .before .end-of in
-    let left = c .left in
+    let args = c .before .before .before .before .before .before .before .before .before .before .before .before .before .before .args in
+    let loop = c .before .before .before .before .before .before .loop in
+    let next-to = c .before .before .next-to in
+    let if1 = c .before .before .before .before .before .if1 in
+    let if2 = c .before .before .before .before .if2 in
+    let end-of = c .end-of in
     let file = now (args .file) in
     let t = targetsIn (now (args .targets)) in
     let path = pathIn (decode (now (args .mark))) in
@@ -163,7 +152,7 @@ loop-again c =
       loop .inv .2,
       omega (arith, next-to .ensures, takes-some file (getD (loop .way) (suc (loop .up - 1)) 0)),
       loop .inv .4,
-      λ m b. flat-pop file t path was (args .at) (args .stop) m b s (loop .way) (loop .up) (loop .p) (loop .end) (loop .k) (loop .seek) (loop .inv .5 m b) (if1 .taken) (if2 .left) .next (next-to .result) (end-of .result) (left .result) (next-to .ensures) (end-of .ensures) (left .ensures),
+      λ m b. flat-pop file t path was (args .at) (args .stop) m b s (loop .way) (loop .up) (loop .p) (loop .end) (loop .k) (loop .seek) (loop .inv .5 m b) (if1 .taken) (if2 .left) .goes-back (next-to .result) (end-of .result) (next-to .ensures) (end-of .ensures),
     )
 
 add-depth : tie.Need-add-depth Inv-loop μ-loop
@@ -216,12 +205,12 @@ returns-2 c =
 
 keep-requires : tie.Need-keep-requires Inv-loop μ-loop
 keep-requires c κs =
-    let args = c .before .before .before .before .before .before .before .before .before .before .before .before .before .before .before .before .args in
-    let loop = c .before .before .before .before .before .before .before .before .loop in
-    let if1 = c .before .before .before .before .before .before .before .if1 in
-    let judge = c .before .before .before .before .before .judge in
-    let enum-told = c .before .before .before .enum-told in
-    let pre = c .before .before .before .before .before .before .before .before .before .before .before .before .before .before .before .before .pre in
+    let args = c .before .before .before .before .before .before .before .before .before .before .before .before .before .before .before .args in
+    let loop = c .before .before .before .before .before .before .before .loop in
+    let if1 = c .before .before .before .before .before .before .if1 in
+    let judge = c .before .before .before .before .judge in
+    let enum-told = c .before .before .enum-told in
+    let pre = c .before .before .before .before .before .before .before .before .before .before .before .before .before .before .before .pre in
     let file = now (args .file) in
     let t = targetsIn (now (args .targets)) in
     let path = pathIn (decode (now (args .mark))) in
@@ -232,14 +221,20 @@ keep-requires c κs =
     let sound = flat-sound file t path was (args .at) (args .stop) unmarked 0 s (loop .way) (loop .up) (loop .p) (loop .end) (loop .k) (loop .seek) (loop .inv .5 unmarked 0) open-ended (pre .0 .1) (pre .0 .2) goes in
     (omega (arith, ends-after file (loop .p), sound .reads), (sound .slot, omega (arith, sound .deeper)))
 
+step-until-passed-requires : tie.Need-step-until-passed-requires Inv-loop μ-loop
+step-until-passed-requires c κs =
+    let loop = c .before .before .before .before .before .before .before .before .before .before .loop in
+    let pre = c .before .before .before .before .before .before .before .before .before .before .before .before .before .before .before .before .before .before .pre in
+    (pre .1 .0, λ none. loop .inv .5 unmarked 0 .seeks none .not-all)
+
 list-requires : tie.Need-list-requires Inv-loop μ-loop
 list-requires c κs =
-    let args = c .before .before .before .before .before .before .before .before .before .before .before .before .before .before .before .before .before .before .before .before .before .args in
-    let loop = c .before .before .before .before .before .before .before .before .before .before .before .before .before .loop in
-    let if1 = c .before .before .before .before .before .before .before .before .before .before .before .before .if1 in
-    let judge = c .before .before .before .before .before .before .before .before .before .before .judge in
-    let enum-told = c .before .before .before .before .before .before .before .before .enum-told in
-    let pre = c .before .before .before .before .before .before .before .before .before .before .before .before .before .before .before .before .before .before .before .before .before .pre in
+    let args = c .before .before .before .before .before .before .before .before .before .before .before .before .before .before .before .before .before .before .before .before .before .before .args in
+    let loop = c .before .before .before .before .before .before .before .before .before .before .before .before .before .before .loop in
+    let if1 = c .before .before .before .before .before .before .before .before .before .before .before .before .before .if1 in
+    let judge = c .before .before .before .before .before .before .before .before .before .before .before .judge in
+    let enum-told = c .before .before .before .before .before .before .before .before .before .enum-told in
+    let pre = c .before .before .before .before .before .before .before .before .before .before .before .before .before .before .before .before .before .before .before .before .before .before .pre in
     let file = now (args .file) in
     let t = targetsIn (now (args .targets)) in
     let path = pathIn (decode (now (args .mark))) in
@@ -252,12 +247,12 @@ list-requires c κs =
 
 load-u64-requires : tie.Need-load-u64-requires Inv-loop μ-loop
 load-u64-requires c κs =
-    let args = c .before .before .before .before .before .before .before .before .before .before .before .before .before .before .before .before .before .before .before .before .before .before .before .before .before .before .args in
-    let loop = c .before .before .before .before .before .before .before .before .before .before .before .before .before .before .before .before .before .before .loop in
-    let if1 = c .before .before .before .before .before .before .before .before .before .before .before .before .before .before .before .before .before .if1 in
-    let judge = c .before .before .before .before .before .before .before .before .before .before .before .before .before .before .before .judge in
-    let enum-told = c .before .before .before .before .before .before .before .before .before .before .before .before .before .enum-told in
-    let pre = c .before .before .before .before .before .before .before .before .before .before .before .before .before .before .before .before .before .before .before .before .before .before .before .before .before .before .pre in
+    let args = c .before .before .before .before .before .before .before .before .before .before .before .before .before .before .before .before .before .before .before .before .before .before .before .before .before .before .before .args in
+    let loop = c .before .before .before .before .before .before .before .before .before .before .before .before .before .before .before .before .before .before .before .loop in
+    let if1 = c .before .before .before .before .before .before .before .before .before .before .before .before .before .before .before .before .before .before .if1 in
+    let judge = c .before .before .before .before .before .before .before .before .before .before .before .before .before .before .before .before .judge in
+    let enum-told = c .before .before .before .before .before .before .before .before .before .before .before .before .before .before .enum-told in
+    let pre = c .before .before .before .before .before .before .before .before .before .before .before .before .before .before .before .before .before .before .before .before .before .before .before .before .before .before .before .pre in
     let file = now (args .file) in
     let t = targetsIn (now (args .targets)) in
     let path = pathIn (decode (now (args .mark))) in
@@ -270,12 +265,12 @@ load-u64-requires c κs =
 
 extent-requires : tie.Need-extent-requires Inv-loop μ-loop
 extent-requires c κs =
-    let args = c .before .before .before .before .before .before .before .before .before .before .before .before .before .before .before .before .before .before .before .before .before .before .before .before .before .before .before .before .args in
-    let loop = c .before .before .before .before .before .before .before .before .before .before .before .before .before .before .before .before .before .before .before .before .loop in
-    let if1 = c .before .before .before .before .before .before .before .before .before .before .before .before .before .before .before .before .before .before .before .if1 in
-    let judge = c .before .before .before .before .before .before .before .before .before .before .before .before .before .before .before .before .before .judge in
-    let enum-told = c .before .before .before .before .before .before .before .before .before .before .before .before .before .before .before .enum-told in
-    let pre = c .before .before .before .before .before .before .before .before .before .before .before .before .before .before .before .before .before .before .before .before .before .before .before .before .before .before .before .before .pre in
+    let args = c .before .before .before .before .before .before .before .before .before .before .before .before .before .before .before .before .before .before .before .before .before .before .before .before .before .before .before .before .before .args in
+    let loop = c .before .before .before .before .before .before .before .before .before .before .before .before .before .before .before .before .before .before .before .before .before .loop in
+    let if1 = c .before .before .before .before .before .before .before .before .before .before .before .before .before .before .before .before .before .before .before .before .if1 in
+    let judge = c .before .before .before .before .before .before .before .before .before .before .before .before .before .before .before .before .before .before .judge in
+    let enum-told = c .before .before .before .before .before .before .before .before .before .before .before .before .before .before .before .before .enum-told in
+    let pre = c .before .before .before .before .before .before .before .before .before .before .before .before .before .before .before .before .before .before .before .before .before .before .before .before .before .before .before .before .before .pre in
     let file = now (args .file) in
     let t = targetsIn (now (args .targets)) in
     let path = pathIn (decode (now (args .mark))) in
@@ -288,14 +283,14 @@ extent-requires c κs =
 
 add-p : tie.Need-add-p Inv-loop μ-loop
 add-p c =
-    let args = c .before .before .before .before .before .before .before .before .before .before .before .before .before .before .before .before .before .before .before .before .before .before .before .before .before .before .before .before .before .args in
-    let loop = c .before .before .before .before .before .before .before .before .before .before .before .before .before .before .before .before .before .before .before .before .before .loop in
-    let if1 = c .before .before .before .before .before .before .before .before .before .before .before .before .before .before .before .before .before .before .before .before .if1 in
-    let judge = c .before .before .before .before .before .before .before .before .before .before .before .before .before .before .before .before .before .before .judge in
-    let enum-told = c .before .before .before .before .before .before .before .before .before .before .before .before .before .before .before .before .enum-told in
-    let pre = c .before .before .before .before .before .before .before .before .before .before .before .before .before .before .before .before .before .before .before .before .before .before .before .before .before .before .before .before .before .pre in
+    let args = c .before .before .before .before .before .before .before .before .before .before .before .before .before .before .before .before .before .before .before .before .before .before .before .before .before .before .before .before .before .before .args in
+    let loop = c .before .before .before .before .before .before .before .before .before .before .before .before .before .before .before .before .before .before .before .before .before .before .loop in
+    let if1 = c .before .before .before .before .before .before .before .before .before .before .before .before .before .before .before .before .before .before .before .before .before .if1 in
+    let judge = c .before .before .before .before .before .before .before .before .before .before .before .before .before .before .before .before .before .before .before .judge in
+    let enum-told = c .before .before .before .before .before .before .before .before .before .before .before .before .before .before .before .before .before .enum-told in
+    let pre = c .before .before .before .before .before .before .before .before .before .before .before .before .before .before .before .before .before .before .before .before .before .before .before .before .before .before .before .before .before .before .pre in
     let extent = c .extent in
-    let good = c .before .before .before .before .before .before .before .before .before .before .before .before .before .before .before .before .before .before .before .before .before .before .before .before .before .before .before .before .before .good in
+    let good = c .before .before .before .before .before .before .before .before .before .before .before .before .before .before .before .before .before .before .before .before .before .before .before .before .before .before .before .before .before .before .good in
     let file = now (args .file) in
     let t = targetsIn (now (args .targets)) in
     let path = pathIn (decode (now (args .mark))) in
@@ -306,21 +301,6 @@ add-p c =
     let sound = flat-sound file t path was (args .at) (args .stop) unmarked 0 s (loop .way) (loop .up) (loop .p) (loop .end) (loop .k) (loop .seek) (loop .inv .5 unmarked 0) open-ended (pre .0 .1) (pre .0 .2) goes in
     omega (arith, extent .ensures, sound .reads, good)
 
-passed-by-requires : tie.Need-passed-by-requires Inv-loop μ-loop
-passed-by-requires c κs =
-    let args = c .before .before .before .before .before .before .before .before .before .before .before .before .before .before .before .before .before .before .before .before .before .before .before .before .before .before .before .before .before .args in
-    let loop = c .before .before .before .before .before .before .before .before .before .before .before .before .before .before .before .before .before .before .before .before .before .loop in
-    let if1 = c .before .before .before .before .before .before .before .before .before .before .before .before .before .before .before .before .before .before .before .before .if1 in
-    let pre = c .before .before .before .before .before .before .before .before .before .before .before .before .before .before .before .before .before .before .before .before .before .before .before .before .before .before .before .before .before .pre in
-    let good = c .before .before .before .before .before .before .before .before .before .before .before .before .before .before .before .before .before .before .before .before .before .before .before .before .before .before .before .before .before .good in
-    let file = now (args .file) in
-    let t = targetsIn (now (args .targets)) in
-    let path = pathIn (decode (now (args .mark))) in
-    let was = slices (now (args .listing)) (now (args .table)) (now (args .records)) in
-    let s = slices (loop .listing) (loop .table) (loop .records) in
-    let open-ended : loop .p < loop .end = omega (arith, if1 .left) in
-    omega (arith, seen-small file t path was (args .at) (args .stop) unmarked 0 s (loop .way) (loop .up) (loop .p) (loop .end) (loop .k) (loop .seek) (loop .inv .5 unmarked 0) (omega (arith, open-ended, inside file t path was (args .at) (args .stop) unmarked 0 s (loop .way) (loop .up) (loop .p) (loop .end) (loop .k) (loop .seek) (loop .inv .5 unmarked 0) (pre .0 .1))), good)
-
 loop-less-2 : tie.Need-loop-less-2 Inv-loop μ-loop
 loop-less-2 c =
     let args = c .before .before .before .before .before .before .before .before .before .before .before .before .before .before .before .before .before .before .before .before .before .before .before .before .before .before .before .before .before .before .args in
@@ -329,7 +309,7 @@ loop-less-2 c =
     let judge = c .before .before .before .before .before .before .before .before .before .before .before .before .before .before .before .before .before .before .before .judge in
     let enum-told = c .before .before .before .before .before .before .before .before .before .before .before .before .before .before .before .before .before .enum-told in
     let pre = c .before .before .before .before .before .before .before .before .before .before .before .before .before .before .before .before .before .before .before .before .before .before .before .before .before .before .before .before .before .before .pre in
-    let kept = c .before .before .before .before .before .before .before .before .before .before .before .before .before .keep in
+    let kept = c .before .before .before .before .before .before .before .before .before .before .before .before .before .before .keep in
     let file = now (args .file) in
     let t = targetsIn (now (args .targets)) in
     let path = pathIn (decode (now (args .mark))) in
@@ -349,14 +329,13 @@ loop-again-2 c =
     let judge = c .before .before .before .before .before .before .before .before .before .before .before .before .before .before .before .before .before .before .before .judge in
     let enum-told = c .before .before .before .before .before .before .before .before .before .before .before .before .before .before .before .before .before .enum-told in
     let pre = c .before .before .before .before .before .before .before .before .before .before .before .before .before .before .before .before .before .before .before .before .before .before .before .before .before .before .before .before .before .before .pre in
-    let load-u64 = c .before .before .before .load-u64 in
-    let listed = c .before .before .before .before .before .before .before .before .list in
-    let kept = c .before .before .before .before .before .before .before .before .before .before .before .before .before .keep in
-    let leads-to = c .before .before .before .before .before .before .before .before .before .before .before .before .before .before .before .before .leads-to in
+    let load-u64 = c .before .before .load-u64 in
+    let listed = c .before .before .before .before .before .before .before .list in
+    let kept = c .before .before .before .before .before .before .before .before .before .before .before .before .before .before .keep in
+    let step = c .before .before .before .before .before .before .before .before .before .before .before .step-until-passed in
     let depth = c .before .before .before .before .before .before .before .before .before .before .before .before .before .before .before .before .before .before .before .before .before .before .before .before .depth in
-    let extent = c .before .extent in
-    let passed-by = c .passed-by in
-    let if3 = c .before .before .if3 in
+    let extent = c .extent in
+    let if3 = c .before .if3 in
     let file = now (args .file) in
     let t = targetsIn (now (args .targets)) in
     let path = pathIn (decode (now (args .mark))) in
@@ -373,27 +352,8 @@ loop-again-2 c =
       omega (arith, loop .inv .3),
       ap length (kept .ensures .1) ∙ length-set (set (loop .way) 0 (loop .up + 1)) (loop .up + 1) (loop .p)
           ∙ length-set (loop .way) 0 (loop .up + 1) ∙ loop .inv .4,
-      λ m b. rw (listed .ensures .0, listed .ensures .1 .0, kept .ensures .0, kept .ensures .1) (flat-leaf file t path was (args .at) (args .stop) m b s (loop .way) (loop .up) (loop .p) (loop .end) (loop .k) (loop .seek) (loop .inv .5 m b) open-ended goes (leads-to .result) (leads-to .result && eqb (depth .result) (loop .up + 1)) (leads-to .ensures) (ap (λ (n : ℕ). leads-to .result && eqb n (loop .up + 1)) (depth .ensures)) (listed .last .1 .1 .1 .1 .1 .0) (listed .ensures .1 .1) (loop .inv .3) room (sound .lies) (extent .result) (load-u64 .result) (passed-by .result) (extent .ensures) size (if3 .taken) (passed-by .ensures)),
+      λ m b. rw (listed .ensures .0, listed .ensures .1 .0, kept .ensures .0, kept .ensures .1) (flat-leaf file t path was (args .at) (args .stop) m b s (loop .way) (loop .up) (loop .p) (loop .end) (loop .k) (loop .seek) (loop .inv .5 m b) open-ended goes (step .result) (step .ensures) (eqb (step .result .matched) (depth .result)) (ap (eqb (step .result .matched)) (depth .ensures)) (listed .last .1 .1 .1 .1 .1 .0) (listed .ensures .1 .1) (loop .inv .3) room (sound .lies) (extent .result) (load-u64 .result) (extent .ensures) size (if3 .taken)),
     )
-
-entered-requires : tie.Need-entered-requires Inv-loop μ-loop
-entered-requires c κs =
-    let args = c .before .before .before .before .before .before .before .before .before .before .before .before .before .before .before .before .before .before .before .before .before .before .before .before .before .before .before .before .args in
-    let loop = c .before .before .before .before .before .before .before .before .before .before .before .before .before .before .before .before .before .before .before .before .loop in
-    let if1 = c .before .before .before .before .before .before .before .before .before .before .before .before .before .before .before .before .before .before .before .if1 in
-    let judge = c .before .before .before .before .before .before .before .before .before .before .before .before .before .before .before .before .before .judge in
-    let enum-told = c .before .before .before .before .before .before .before .before .before .before .before .before .before .before .before .enum-told in
-    let pre = c .before .before .before .before .before .before .before .before .before .before .before .before .before .before .before .before .before .before .before .before .before .before .before .before .before .before .before .before .pre in
-    let good = c .before .before .before .before .before .before .before .before .before .before .before .before .before .before .before .before .before .before .before .before .before .before .before .before .before .before .before .before .good in
-    let file = now (args .file) in
-    let t = targetsIn (now (args .targets)) in
-    let path = pathIn (decode (now (args .mark))) in
-    let was = slices (now (args .listing)) (now (args .table)) (now (args .records)) in
-    let s = slices (loop .listing) (loop .table) (loop .records) in
-    let open-ended : loop .p < loop .end = omega (arith, if1 .left) in
-    let goes = flat-goes file t path was (args .at) (args .stop) unmarked 0 s (loop .way) (loop .up) (loop .p) (loop .end) (loop .k) (loop .seek) (loop .inv .5 unmarked 0) open-ended (judge .result) (enum-told .given .0 .0) (judge .ensures) (enum-told .given .1) in
-    let sound = flat-sound file t path was (args .at) (args .stop) unmarked 0 s (loop .way) (loop .up) (loop .p) (loop .end) (loop .k) (loop .seek) (loop .inv .5 unmarked 0) open-ended (pre .0 .1) (pre .0 .2) goes in
-    (omega (arith, seen-small file t path was (args .at) (args .stop) unmarked 0 s (loop .way) (loop .up) (loop .p) (loop .end) (loop .k) (loop .seek) (loop .inv .5 unmarked 0) (omega (arith, open-ended, inside file t path was (args .at) (args .stop) unmarked 0 s (loop .way) (loop .up) (loop .p) (loop .end) (loop .k) (loop .seek) (loop .inv .5 unmarked 0) (pre .0 .1))), good), omega (arith, sound .deeper))
 
 add-load-u64 : tie.Need-add-load-u64 Inv-loop μ-loop
 add-load-u64 c =
@@ -440,9 +400,9 @@ add-end c =
     let judge = c .before .before .before .before .before .before .before .before .before .before .before .before .before .before .before .before .before .before .before .judge in
     let enum-told = c .before .before .before .before .before .before .before .before .before .before .before .before .before .before .before .before .before .enum-told in
     let pre = c .before .before .before .before .before .before .before .before .before .before .before .before .before .before .before .before .before .before .before .before .before .before .before .before .before .before .before .before .before .before .pre in
-    let load-u64 = c .before .before .before .load-u64 in
+    let load-u64 = c .before .before .load-u64 in
     let load-u642 = c .load-u642 in
-    let if3 = c .before .before .if3 in
+    let if3 = c .before .if3 in
     let good = c .before .before .before .before .before .before .before .before .before .before .before .before .before .before .before .before .before .before .before .before .before .before .before .before .before .before .before .before .before .before .good in
     let file = now (args .file) in
     let t = targetsIn (now (args .targets)) in
@@ -465,7 +425,7 @@ loop-less-3 c =
     let judge = c .before .before .before .before .before .before .before .before .before .before .before .before .before .before .before .before .before .before .before .judge in
     let enum-told = c .before .before .before .before .before .before .before .before .before .before .before .before .before .before .before .before .before .enum-told in
     let pre = c .before .before .before .before .before .before .before .before .before .before .before .before .before .before .before .before .before .before .before .before .before .before .before .before .before .before .before .before .before .before .pre in
-    let kept = c .before .before .before .before .before .before .before .before .before .before .before .before .before .keep in
+    let kept = c .before .before .before .before .before .before .before .before .before .before .before .before .before .before .keep in
     let file = now (args .file) in
     let t = targetsIn (now (args .targets)) in
     let path = pathIn (decode (now (args .mark))) in
@@ -485,14 +445,13 @@ loop-again-3 c =
     let judge = c .before .before .before .before .before .before .before .before .before .before .before .before .before .before .before .before .before .before .before .judge in
     let enum-told = c .before .before .before .before .before .before .before .before .before .before .before .before .before .before .before .before .before .enum-told in
     let pre = c .before .before .before .before .before .before .before .before .before .before .before .before .before .before .before .before .before .before .before .before .before .before .before .before .before .before .before .before .before .before .pre in
-    let load-u64 = c .before .before .before .load-u64 in
+    let load-u64 = c .before .before .load-u64 in
     let load-u642 = c .load-u642 in
-    let if3 = c .before .before .if3 in
-    let listed = c .before .before .before .before .before .before .before .before .list in
-    let kept = c .before .before .before .before .before .before .before .before .before .before .before .before .before .keep in
-    let leads-to = c .before .before .before .before .before .before .before .before .before .before .before .before .before .before .before .before .leads-to in
+    let if3 = c .before .if3 in
+    let listed = c .before .before .before .before .before .before .before .list in
+    let kept = c .before .before .before .before .before .before .before .before .before .before .before .before .before .before .keep in
+    let step = c .before .before .before .before .before .before .before .before .before .before .before .step-until-passed in
     let depth = c .before .before .before .before .before .before .before .before .before .before .before .before .before .before .before .before .before .before .before .before .before .before .before .before .depth in
-    let entered = c .before .entered in
     let file = now (args .file) in
     let t = targetsIn (now (args .targets)) in
     let path = pathIn (decode (now (args .mark))) in
@@ -511,7 +470,7 @@ loop-again-3 c =
       omega (arith, place, sound .children some .0),
       ap length (kept .ensures .1) ∙ length-set (set (loop .way) 0 (loop .up + 1)) (loop .up + 1) (loop .p)
           ∙ length-set (loop .way) 0 (loop .up + 1) ∙ loop .inv .4,
-      λ m b. rw (listed .ensures .0, listed .ensures .1 .0, kept .ensures .0, kept .ensures .1) (flat-down file t path was (args .at) (args .stop) m b s (loop .way) (loop .up) (loop .p) (loop .end) (loop .k) (loop .seek) (loop .inv .5 m b) open-ended goes (leads-to .result) (leads-to .result && eqb (depth .result) (loop .up + 1)) (leads-to .ensures) (ap (λ (n : ℕ). leads-to .result && eqb n (loop .up + 1)) (depth .ensures)) (listed .last .1 .1 .1 .1 .1 .0) (listed .ensures .1 .1) (loop .inv .3) room (sound .lies) (load-u642 .result) (load-u64 .result) (entered .result) place size (entered .ensures)),
+      λ m b. rw (listed .ensures .0, listed .ensures .1 .0, kept .ensures .0, kept .ensures .1) (flat-down file t path was (args .at) (args .stop) m b s (loop .way) (loop .up) (loop .p) (loop .end) (loop .k) (loop .seek) (loop .inv .5 m b) open-ended goes (step .result) (step .ensures) (eqb (step .result .matched) (depth .result)) (ap (eqb (step .result .matched)) (depth .ensures)) (listed .last .1 .1 .1 .1 .1 .0) (listed .ensures .1 .1) (loop .inv .3) room (sound .lies) (load-u642 .result) (load-u64 .result) place size),
     )
 
 pub contexts-spec : {M : Type 1} → statement M
@@ -530,7 +489,6 @@ contexts-spec =
     sub-up
     next-to-requires
     end-of-requires
-    left-requires
     loop-less
     loop-again
     add-depth
@@ -540,16 +498,14 @@ contexts-spec =
     same-length-5
     same-length-6
     returns-2
-    (λ c κs. search needs)
     keep-requires
+    step-until-passed-requires
     list-requires
     load-u64-requires
     extent-requires
     add-p
-    passed-by-requires
     loop-less-2
     loop-again-2
-    entered-requires
     add-load-u64
     load-u64-requires-2
     add-end
