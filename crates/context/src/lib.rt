@@ -106,7 +106,7 @@ fn present_word(file: &[u8], p: usize, flags: u8, j: u64) -> u64
     le::load_u64(file, p + FLEX + 8 * (flex::before(flags, j) as usize))
 }
 
-// 0 where it is not present.
+// Flex field j; 0 where it is not present.
 fn flex_word(file: &[u8], p: usize, flags: u8, present: bool, j: u64) -> u64
     requires { ⌜ p + 24 + 8 * words flags ≤ length (now file) ⌝ }
     requires { ⌜ (j < 5) × (present ≡ bit flags (getD packing j 0)) ⌝ }

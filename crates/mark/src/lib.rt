@@ -1,9 +1,9 @@
 // Marks of a walk, read and written.
 ghost use mathlib.Core.Bool.{true};
 ghost use mathlib.Core.Path.{_≡_};
-ghost use Prim.Native.Nat.{_≤_, _<_};
+ghost use Prim.Native.Nat.{_+_, _*_, _≤_, _<_};
 ghost use lib.ListN.{length, getD};
-ghost use Rattle.layout.specs.Bytes.{fields};
+ghost use Rattle.layout.specs.Bytes.{bytes, fields};
 ghost use Rattle.buffer.specs.Over.{over};
 ghost use Rattle.mark.specs.Mark.{deepest, headFields, decode, isNamed, pathIn};
 
@@ -61,4 +61,12 @@ pub fn put_head(out: &mut [u8], depth: usize)
     put::store_u16(out, 0, (HEAD + NUMBER * depth) as u16);
     put::store_u16(out, 2, KIND);
     out[4] = depth as u8;
+}
+
+// The number of the level that has k above it.
+pub fn put_number(out: &mut [u8], k: usize, number: u32)
+    requires { ⌜ 5 + 4 * k + 4 ≤ length (now out) ⌝ }
+    ensures { λ _. ⌜ now (out .exit) ≡ over (now (out .entry)) (5 + 4 * k) (bytes 4 number) ⌝ }
+{
+    put::store_u32(out, HEAD + NUMBER * k, number);
 }

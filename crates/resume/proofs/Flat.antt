@@ -31,9 +31,9 @@ use Rattle.seek.specs.declared.Seek.{Seek}
 use Rattle.seek.specs.Seek.{seek, stepped, Next, Seeks}
 use Rattle.seek.proofs.Matching.{next-child, next-sibling, next-above, seeks-start, seeks-found, seeks-on}
 use Rattle.visit.specs.Visit.{checksAfter10}
-use Rattle.visit.proofs.Checks.{judged, safe}
+use Rattle.visit.proofs.Checks.{by-table, safe}
 use Rattle.resume.specs.Way.{siblingPlace, WayTo, childrenEnd, endBelow, nextBelow, Lies, LiesBelow}
-use Rattle.resume.specs.State.{Holds, countedEnd, Ended, askedWith, verdict, marksMore, listingMore, RecordMore}
+use Rattle.resume.specs.State.{Holds, countedEnd, Ended, askedWith, visitAnswer, marksMore, listingMore, RecordMore}
 use Rattle.resume.proofs.Places.{sibling-first, sibling-next}
 use Rattle.resume.proofs.Slices.{long, recounted, one-more}
 use Rattle.resume.proofs.Frames.{Frame, frame, upsOf, parentOf, arrayStart, arrayEnd, WayStands, AllLie, Numbered, ups-length, below-end, below-lies, end-inside, leads-to, noted-above, noted-stands, noted-depth}
@@ -248,7 +248,7 @@ module _ (file : List ℕ) (t : Targets) (path : List ℕ) (was : Slices) (at st
           ∙ ap (λ (o : Outcome). bind o rest-of) (rest-step E down (parentOf (g .frames)) (upsOf (g .frames)) (g .i) p e (g .so) h)
           ∙ bind-assoc (visit E down (parentOf (g .frames)) path-here p e (g .so)) _ rest-of
 
-      -- what the verdict goes by
+      -- what a visit is answered by
       abbrev fine : Bool
       fine = contextRule file p e
 
@@ -259,7 +259,7 @@ module _ (file : List ℕ) (t : Targets) (path : List ℕ) (was : Slices) (at st
       room = ap₂ leb (sym (g .holds .counted)) (sym (long (g .holds)))
 
       checked : fine ≡ true → visitCheck E path-here p e (g .so) ≡ checks
-      checked f = judged E (g .so) (s .table) (g .holds .filled) (g .holds .placed) path-here (up + 1) p e here-length f
+      checked f = by-table E (g .so) (s .table) (g .holds .filled) (g .holds .placed) path-here (up + 1) p e here-length f
 
       refused-by : (r : Refusal) → visit E down (parentOf (g .frames)) path-here p e (g .so) ≡ refused r (g .so)
           → Ended file at path was all (Refused r k) s way
@@ -275,9 +275,9 @@ module _ (file : List ℕ) (t : Targets) (path : List ℕ) (was : Slices) (at st
           (ap Truncated (g .holds .counted))
 
       -- it does not go on
-      pub flat-stops : (r : Walked) → r ≡ verdict file t (up + 1) p e (s .table) (length (s .listing)) k → ((j : ℕ) → r ≡ Complete j → ⊥)
+      pub flat-stops : (r : Walked) → r ≡ visitAnswer file t (up + 1) p e (s .table) (length (s .listing)) k → ((j : ℕ) → r ≡ Complete j → ⊥)
           → Ended file at path was all r s way
-      unfolding verdict first rule ifPassed either
+      unfolding visitAnswer first rule ifPassed either
       flat-stops r v z = go fine refl checks refl (leb k (length (s .listing))) refl v
         where
           go : (a : Bool) → fine ≡ a → (c : Check) → checks ≡ c → (b : Bool) → leb k (length (s .listing)) ≡ b
@@ -290,8 +290,8 @@ module _ (file : List ℕ) (t : Targets) (path : List ℕ) (was : Slices) (at st
               rw q (cut-by (visit-cut E down (parentOf (g .frames)) path-here p e (g .so) (checked ea ∙ ec) (room ∙ eb)))
 
       -- it goes on
-      pub flat-goes : (r : Walked) (j : ℕ) → r ≡ verdict file t (up + 1) p e (s .table) (length (s .listing)) k → r ≡ Complete j → Goes file t s up p e k
-      unfolding verdict first rule ifPassed either
+      pub flat-goes : (r : Walked) (j : ℕ) → r ≡ visitAnswer file t (up + 1) p e (s .table) (length (s .listing)) k → r ≡ Complete j → Goes file t s up p e k
+      unfolding visitAnswer first rule ifPassed either
       flat-goes r j v z = go fine refl checks refl (leb k (length (s .listing))) refl (sym v ∙ z)
         where
           go : (a : Bool) → fine ≡ a → (c : Check) → checks ≡ c → (b : Bool) → leb k (length (s .listing)) ≡ b

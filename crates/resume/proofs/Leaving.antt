@@ -34,7 +34,7 @@ use Rattle.traversal.proofs.Places.{last-all}
 use Rattle.traversal.proofs.Small.{visited-encodable}
 use Rattle.traversal.proofs.Visited.{VisitedBy, visited}
 use Rattle.resume.specs.Way.{Leads, MarkPut}
-use Rattle.resume.specs.State.{countedEnd, Ended, AllDone, marksIn, settled}
+use Rattle.resume.specs.State.{countedEnd, Ended, AllDone, marksIn, answerOf}
 use Rattle.resume.proofs.Slices.{wide, none-listed, none-recorded}
 
 -- ---- the answer
@@ -49,27 +49,27 @@ list-from path o = go (isPassed path (listOf o)) refl
         ap listOf (from-unpassed path o e) ∙ list-unpassed o ∙ sym (unpassed-after path (listOf o) (marks-unpassed path (listOf o) .1 e))
 
 -- the end with the contexts after the mark counted
-settled-passed : (path : List ℕ) (o : Outcome) (n : ℕ) → marksFrom path (listOf o) ≡ suc n → length (afterMark path (listOf o)) ≡ n
-    → settled (countedEnd path o) ≡ walkedOf (withList o (afterMark path (listOf o)))
-unfolding settled countedEnd walkedOf
-settled-passed path (on l) n e a = rw (e, a)
-settled-passed path (cut l) n e a = rw (e, a)
-settled-passed path (refused r l) n e a = rw (e, a)
+answer-passed : (path : List ℕ) (o : Outcome) (n : ℕ) → marksFrom path (listOf o) ≡ suc n → length (afterMark path (listOf o)) ≡ n
+    → answerOf (countedEnd path o) ≡ walkedOf (withList o (afterMark path (listOf o)))
+unfolding answerOf countedEnd walkedOf
+answer-passed path (on l) n e a = rw (e, a)
+answer-passed path (cut l) n e a = rw (e, a)
+answer-passed path (refused r l) n e a = rw (e, a)
 
-settled-unpassed : (path : List ℕ) (o : Outcome) → marksFrom path (listOf o) ≡ 0 → settled (countedEnd path o) ≡ walkedOf (unpassed o)
-unfolding settled countedEnd walkedOf
-settled-unpassed path (on l) e = rw e
-settled-unpassed path (cut l) e = rw e
-settled-unpassed path (refused r l) e = rw e
+answer-unpassed : (path : List ℕ) (o : Outcome) → marksFrom path (listOf o) ≡ 0 → answerOf (countedEnd path o) ≡ walkedOf (unpassed o)
+unfolding answerOf countedEnd walkedOf
+answer-unpassed path (on l) e = rw e
+answer-unpassed path (cut l) e = rw e
+answer-unpassed path (refused r l) e = rw e
 
-settled-is : (path : List ℕ) (o : Outcome) → settled (countedEnd path o) ≡ walkedOf (fromMark path o)
-settled-is path o = go (marksFrom path (listOf o)) refl
+answer-is : (path : List ℕ) (o : Outcome) → answerOf (countedEnd path o) ≡ walkedOf (fromMark path o)
+answer-is path o = go (marksFrom path (listOf o)) refl
   where
-    go : (k : ℕ) → marksFrom path (listOf o) ≡ k → settled (countedEnd path o) ≡ walkedOf (fromMark path o)
-    go zero e = settled-unpassed path o e ∙ ap walkedOf (sym (from-unpassed path o (marks-unpassed path (listOf o) .0 e)))
+    go : (k : ℕ) → marksFrom path (listOf o) ≡ k → answerOf (countedEnd path o) ≡ walkedOf (fromMark path o)
+    go zero e = answer-unpassed path o e ∙ ap walkedOf (sym (from-unpassed path o (marks-unpassed path (listOf o) .0 e)))
     go (suc n) e =
         let some : 0 < marksFrom path (listOf o) = omega arith in
-        settled-passed path o n e (omega (arith, after-length path (listOf o) some))
+        answer-passed path o n e (omega (arith, after-length path (listOf o) some))
         ∙ ap walkedOf (sym (from-passed path o (marks-passed path (listOf o) .0 some)))
 
 -- the marks that an answer counts are those of the contexts visited
@@ -156,8 +156,8 @@ module _ (file mark : List ℕ) (asks : Bool) (was : Slices) {ps : List (List �
   counted : marksIn w ≡ marksFrom path (listOf seen)
   counted = ap marksIn (ended .says) ∙ marks-of path seen
 
-  answered : settled w ≡ walkedOf (walkOf q)
-  answered = ap settled (ended .says) ∙ settled-is path seen ∙ ap walkedOf (sym (by .walk))
+  answered : answerOf w ≡ walkedOf (walkOf q)
+  answered = ap answerOf (ended .says) ∙ answer-is path seen ∙ ap walkedOf (sym (by .walk))
 
   after-is : afterMark path (listOf seen) ≡ listOf (walkOf q)
   after-is = sym (ap listOf (by .walk) ∙ list-from path seen)
@@ -174,7 +174,7 @@ module _ (file mark : List ℕ) (asks : Bool) (was : Slices) {ps : List (List �
 
   -- the mark is not passed
   pub leaves-none : marksIn w ≡ 0 → (table : List ℕ) → table ≡ replicate (length (s .table)) 0
-      → LeavesFrom itself file (marksWith mark asks) was (settled w) (slicesWithMark (s .listing) table (s .records) (was .mark))
+      → LeavesFrom itself file (marksWith mark asks) was (answerOf w) (slicesWithMark (s .listing) table (s .records) (was .mark))
   unfolding markAfter either tableWith slotsWith
   leaves-none z table e =
       let not-passed : isPassed path (listOf seen) ≡ false = marks-unpassed path (listOf seen) .0 (sym counted ∙ z) in
@@ -196,7 +196,7 @@ module _ (file mark : List ℕ) (asks : Bool) (was : Slices) {ps : List (List �
     passed = marks-passed path (listOf seen) .0 (omega (arith, counted, z))
 
     leaves-by : (new : List ℕ) → new ≡ either asks (over (was .mark) 0 (encode (newPath q))) (was .mark)
-        → LeavesFrom itself file (marksWith mark asks) was (settled w) (slicesWithMark (s .listing) (s .table) (s .records) new)
+        → LeavesFrom itself file (marksWith mark asks) was (answerOf w) (slicesWithMark (s .listing) (s .table) (s .records) new)
     unfolding markAfter
     leaves-by new e = record {
       answers = answered;
@@ -207,7 +207,7 @@ module _ (file mark : List ℕ) (asks : Bool) (was : Slices) {ps : List (List �
     }
 
     pub leaves-unasked : asks ≡ false
-        → LeavesFrom itself file (marksWith mark asks) was (settled w) (slicesWithMark (s .listing) (s .table) (s .records) (was .mark))
+        → LeavesFrom itself file (marksWith mark asks) was (answerOf w) (slicesWithMark (s .listing) (s .table) (s .records) (was .mark))
     unfolding either
     leaves-unasked e = leaves-by (was .mark) (rw e)
 
@@ -222,7 +222,7 @@ module _ (file mark : List ℕ) (asks : Bool) (was : Slices) {ps : List (List �
       leads = (lastPath [] (listOf seen), ended .last, encodable)
 
       pub leaves-asked : (new : List ℕ) → asks ≡ true → MarkPut file place way (was .mark) new
-          → LeavesFrom itself file (marksWith mark asks) was (settled w) (slicesWithMark (s .listing) (s .table) (s .records) new)
+          → LeavesFrom itself file (marksWith mark asks) was (answerOf w) (slicesWithMark (s .listing) (s .table) (s .records) new)
       unfolding either
       leaves-asked new e put =
           leaves-by new

@@ -58,8 +58,8 @@ AllDone file ps path was r s way =
     r s way
 
 -- whether the walk goes on to list or pass the context at p, k marks having been passed
-unfoldable pub verdict : List ℕ → Targets → (depth p stop : ℕ) (table : List ℕ) (words k : ℕ) → Walked
-verdict file t depth p stop table words k =
+unfoldable pub visitAnswer : List ℕ → Targets → (depth p stop : ℕ) (table : List ℕ) (words k : ℕ) → Walked
+visitAnswer file t depth p stop table words k =
     ifPassed (λ r. Refused r k) (first (rule (contextRule file p stop) No.Context) (checksAfter10 file t depth p table))
     (either (leb k words) (Complete k) (Truncated k))
 
@@ -84,10 +84,10 @@ marksIn (Truncated k) = k
 marksIn (Refused r k) = k
 
 -- where none is passed: 18, or the refusal that came first; else with the contexts after the mark
-unfoldable pub settled : Walked → Walked
-settled (Complete zero) = Refused No.Mark 0
-settled (Complete (suc k)) = Complete k
-settled (Truncated zero) = Truncated 0
-settled (Truncated (suc k)) = Truncated k
-settled (Refused r zero) = Refused r 0
-settled (Refused r (suc k)) = Refused r k
+unfoldable pub answerOf : Walked → Walked
+answerOf (Complete zero) = Refused No.Mark 0
+answerOf (Complete (suc k)) = Complete k
+answerOf (Truncated zero) = Truncated 0
+answerOf (Truncated (suc k)) = Truncated k
+answerOf (Refused r zero) = Refused r 0
+answerOf (Refused r (suc k)) = Refused r k

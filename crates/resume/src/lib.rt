@@ -1,10 +1,10 @@
 // Walks, from a mark on or from the first root: a loop that keeps its way down in words, by which it comes back up, and by which the mark
 // of the last context listed is written. What is counted on the way are the marks passed from the given one on, itself among them, so
-// that 0 says that it is not passed yet; the numbers in the answers of `judge`, `contexts` and `walk_in` are these.
+// that 0 says that it is not passed yet; the numbers in the answers of `visit_answer`, `contexts` and `walk_in` are these.
 ghost use mathlib.Core.Bool.{true, _||_, not};
 ghost use mathlib.Core.List.{[]};
 ghost use mathlib.Core.Path.{_≡_};
-ghost use Prim.Native.Nat.{suc, _+_, _*_, _≤_, _<_};
+ghost use Prim.Native.Nat.{suc, _+_, _≤_, _<_};
 ghost use lib.Dec.{eqb, leb};
 ghost use lib.ListN.{length, set, replicate};
 ghost use Rattle.refusal.specs.Check.{either};
@@ -17,7 +17,7 @@ ghost use Rattle.mark.specs.Mark.{markRoom, decode, isNamed, pathIn};
 ghost use Rattle.seek.specs.Seek.{stepped};
 ghost use Rattle.traversal.specs.Walk.{slices, slicesWithMark, marksWith, LeavesFrom, Leaves, itself};
 ghost use Rattle.resume.specs.Way.{endBelow, nextBelow, LiesBelow, NumberOf, Leads, MarkPut};
-ghost use Rattle.resume.specs.State.{RootsDone, AllDone, verdict, marksMore, listingMore, RecordMore, marksIn, settled};
+ghost use Rattle.resume.specs.State.{RootsDone, AllDone, visitAnswer, marksMore, listingMore, RecordMore, marksIn, answerOf};
 use context::CTX_ID;
 use context::TARGETS;
 use open::CONTEXT;
@@ -30,7 +30,7 @@ use traversal::Walked;
 const WAY: usize = 201;
 
 // Whether the walk goes on to list or pass the context at `p`: Complete, or how it ends.
-fn judge(
+fn visit_answer(
     file: &[u8],
     targets: &[u64; TARGETS],
     depth: usize,
@@ -41,7 +41,7 @@ fn judge(
     k: usize,
 ) -> Walked
     requires { ⌜ (p ≤ stop) × (stop ≤ length (now file)) ⌝ }
-    ensures { λ r. ⌜ r ≡ verdict (now (file .entry)) (targetsIn (now (targets .entry))) depth p stop (now (table .entry)) words k ⌝ }
+    ensures { λ r. ⌜ r ≡ visitAnswer (now (file .entry)) (targetsIn (now (targets .entry))) depth p stop (now (table .entry)) words k ⌝ }
 {
     if !context::context_rule(file, p, stop) {
         return Walked::Refused(Refusal::Context, k);
@@ -57,7 +57,7 @@ fn judge(
 }
 
 // The context at `p` has its slot, and the way leads to it.
-fn keep(file: &[u8], p: usize, depth: usize, table: &mut [u64], way: &mut [u64; WAY])
+fn store_visit(file: &[u8], p: usize, depth: usize, table: &mut [u64], way: &mut [u64; WAY])
     requires { ⌜ p + 24 ≤ length (now file) ⌝ }
     requires { ⌜ (field (now file) p ctxId < length (now table)) × (depth < 201) ⌝ }
     ensures { λ _. ⌜ now (table .exit) ≡ set (now (table .entry)) (field (now (file .entry)) p ctxId) p ⌝ }
@@ -69,7 +69,8 @@ fn keep(file: &[u8], p: usize, depth: usize, table: &mut [u64], way: &mut [u64; 
     way[depth] = p as u64;
 }
 
-// Lists the context at `p` if the mark is passed; gives the marks passed after it.
+// Lists the context at `p` if the mark is passed; gives the marks passed after it. `found`, that it is the mark's context, counts only while
+// the mark is not passed.
 fn list(
     file: &[u8],
     p: usize,
@@ -172,11 +173,11 @@ fn contexts(
             end = end_of(file, stop, way, up);
         } else {
             let depth = up + 1;
-            let goes = judge(file, targets, depth, p, end, table, listing.len(), k);
+            let goes = visit_answer(file, targets, depth, p, end, table, listing.len(), k);
             let Walked::Complete(_) = goes else {
                 return goes;
             };
-            keep(file, p, depth, table, way);
+            store_visit(file, p, depth, table, way);
             seek = step_until_passed(mark, seek, up, k);
             let found = seek.matched == marked;
             k = list(file, p, depth, found, listing, records, k);
@@ -257,7 +258,7 @@ fn put_mark(file: &[u8], start: usize, way: &[u64; WAY], out: &mut [u8])
     while d < depth {
         let p = way[d + 1] as usize;
         let n = number_of(file, from, p);
-        put::store_u32(out, 5 + 4 * d, (n % 0x1_0000_0000) as u32);
+        mark::put_number(out, d, (n % 0x1_0000_0000) as u32);
         from = le::load_u64(file, p + 8) as usize;
         d += 1;
     }
@@ -274,8 +275,8 @@ fn marks_in(walked: Walked) -> usize
 }
 
 // The answer, with the contexts listed; where the mark was not passed, 18 or the refusal that came first.
-fn settle(walked: Walked) -> Walked
-    ensures { λ r. ⌜ r ≡ settled walked ⌝ }
+fn answer_of(walked: Walked) -> Walked
+    ensures { λ r. ⌜ r ≡ answerOf walked ⌝ }
 {
     let k = marks_in(walked);
     let n = if k == 0 { 0 } else { k - 1 };
@@ -314,14 +315,14 @@ fn walk_opened(
     let k = marks_in(walked);
     if k == 0 {
         buffer::clear(table);
-        return settle(walked);
+        return answer_of(walked);
     }
     if asks {
         let start = le::u64_at(file, sections[CONTEXT][0], 8) as usize;
         put_mark(file, start, &way, new_mark);
-        return settle(walked);
+        return answer_of(walked);
     }
-    settle(walked)
+    answer_of(walked)
 }
 
 // From a mark on, with records; and the mark of the last context listed, where it is asked for.

@@ -32,12 +32,12 @@ next-above (y ∷ last) (z ∷ ups) x i n = (n .0, next-above last ups x i (n .1
 
 -- ---- a step
 
-pub sought-first : (path : List ℕ) → sought path [] ≡ seek 0 0
+sought-first : (path : List ℕ) → sought path [] ≡ seek 0 0
 unfolding sought
 sought-first [] = refl
 sought-first (y ∷ path) = refl
 
-pub sought-most : (path last : List ℕ) → sought path last .matched ≤ length path
+sought-most : (path last : List ℕ) → sought path last .matched ≤ length path
 unfolding sought deeper either
 sought-most [] last = omega arith
 sought-most (y ∷ path) [] = omega arith

@@ -1,5 +1,5 @@
 // Finds the context of a mark on a traversal, without its path at hand: by how many levels of the mark's path the way down is on, and how
-// many siblings of the next level were visited.
+// many siblings of the next level were visited, counted up to one more than the mark's number there.
 ghost use mathlib.Core.Bool.{true};
 ghost use mathlib.Core.Path.{_≡_};
 ghost use Prim.Native.Nat.{_<_};
@@ -12,7 +12,7 @@ pub struct Seek {
     pub seen: u64,
 }
 
-// At the next context, which is below `up` others. Once all levels match, it is that of the mark.
+// The two numbers after the next context, which is below `up` others. Where all levels match then, it is the mark's.
 pub fn step(mark: &[u8], seek: Seek, up: usize) -> Seek
     requires { ⌜ isNamed (decode (now mark)) ≡ true ⌝ }
     requires { ⌜ seek .matched < length (pathIn (decode (now mark))) ⌝ }

@@ -19,7 +19,7 @@ use Rattle.traversal.specs.declared.Walked.{Walked}
 use Rattle.traversal.specs.declared.Walked.the-variants.{Complete, Truncated, Refused}
 use Rattle.traversal.specs.Traversal.{Marks, Asked, ask, Outcome, on, cut, refused, listOf, traversal}
 use Rattle.traversal.specs.From.{isPassed, afterMark, upToMark, withList, unpassed, fromMark}
-use Rattle.traversal.specs.Walk.{walkCheck, givenPath, trailFrom, walkOf, markPassed, reached, walkedOf, numberListed, placeOf, listingWith, tableWith, wordsOf, recordsWith, tableAfter, markAfter, Slices, askWith, LeavesFrom, itself}
+use Rattle.traversal.specs.Walk.{walkCheck, givenPath, trailFrom, walkOf, markPassed, reached, walkedOf, numberListed, placeOf, listingWith, tableWith, wordsOf, recordsWith, tableAfter, markAfter, Slices, LeavesFrom, itself}
 use Rattle.traversal.specs.Demand3.{Call, asked, listedNumber, listedWords, trail, listed, Untouched, OneWalk, Final, Begins, TwoWalks, AskedAlike, Demand3}
 use Rattle.traversal.proofs.Begins.{take-own}
 use Rattle.traversal.proofs.Cut.{truncate-short, truncate-long, list-truncate}
@@ -40,7 +40,7 @@ number-of (cut l) = refl
 number-of (refused r l) = refl
 
 -- a walk lists the first of the trail's contexts, no more than it has room for
-lists-first : (a : Asked) → listOf (walkOf a) ≡ take (a .lent .words) (listOf (trailFrom a))
+pub lists-first : (a : Asked) → listOf (walkOf a) ≡ take (a .lent .words) (listOf (trailFrom a))
 unfolding walkOf
 lists-first a = list-truncate (a .lent .words) (trailFrom a)
 
@@ -247,21 +247,3 @@ demand3 = record {
 pub said-as : {A : Type 0} {say : Walked → A} {file : List ℕ} {m : Marks} {was now : Slices} {w : Walked} {answer : A}
     → LeavesFrom itself file m was w now → answer ≡ say w → LeavesFrom say file m was answer now
 said-as {say = say} l e = record { answers = e ∙ ap say (l .answers); lists = l .lists; fills = l .fills; recorded = l .recorded; marked = l .marked }
-
--- such a walk is a call too
-pub call-in-words : {A : Type 0} (say : Walked → A) (file : List ℕ) (m : Marks) (was : Slices) (answer : A) (now : Slices)
-    → LeavesFrom say file m was answer now
-    → (c : Call file) × (answer ≡ say (c .answer)) × (c .marks ≡ m) × (c .was ≡ was) × (c .now ≡ now)
-call-in-words say file m was answer now l = (
-  record {
-    marks = m;
-    was = was;
-    answer = walkedOf (walkOf (askWith file m was));
-    now = now;
-    promised = record { answers = refl; lists = l .lists; fills = l .fills; recorded = l .recorded; marked = l .marked };
-  },
-  l .answers,
-  refl,
-  refl,
-  refl,
-)

@@ -16,6 +16,7 @@ pub mod Preorder
 pub mod Places
 pub mod Join
 pub mod Rules
+pub mod Refusals
 pub mod Demand3
 pub mod Unmarked
 pub mod Visited

@@ -3,18 +3,23 @@
 use Prim.Native.Nat.{ℕ, _≤_, _<_}
 use mathlib.Core.Bool.{Bool, true, false, _||_, not, true≢false}
 use mathlib.Core.List.{List}
+use mathlib.Core.Logic.{_⊎_, inl, inr}
 use mathlib.Core.Path.{_≡_, refl, sym, ap, _∙_}
-use borrow.Author.Tests.{le-leb, lt-leb, leb-true}
+use native.Mathlib.Omega.{arith}
+use borrow.Author.Tests.{le-leb, lt-leb, leb-true, leb-false}
 use lib.Dec.{leb}
 use lib.ListN.{length}
+use Rattle.refusal.specs.declared.Refusal.{Refusal}
 use Rattle.refusal.specs.declared.Refusal.the-variants as No
 use Rattle.refusal.specs.declared.Check.{Check}
 use Rattle.refusal.specs.declared.Check.the-variants as Check
 use Rattle.refusal.specs.Check.{rule, first, ifPassed}
-use Rattle.refusal.proofs.Checks.{rule-passes, first-passes}
+use Rattle.refusal.specs.Number.{numberOf}
+use Rattle.refusal.proofs.Checks.{rule-passes, first-passes, not-both}
 use Rattle.open.specs.Format.{meta}
 use Rattle.open.specs.Opening.{opening}
-use Rattle.mark.specs.Mark.{markRoom, named, decode, isNamed, pathIn}
+use Rattle.open.proofs.Given.{one-to-seven}
+use Rattle.mark.specs.Mark.{markRoom, Decoded, named, malformed, decode, isNamed, pathIn}
 use Rattle.mark.proofs.Bytes.{is-named}
 use Rattle.traversal.specs.Traversal.{Asked, listOf, traversal}
 use Rattle.traversal.specs.From.{isPassed}
@@ -30,7 +35,45 @@ rule-room : (asks : Bool) (n : ℕ) → not asks || leb markRoom n ≡ true → 
 rule-room true n h e = leb-true markRoom n h
 rule-room false n h e = absurd (true≢false (sym e))
 
+rule-short : (asks : Bool) (n : ℕ) → not asks || leb markRoom n ≡ false → (asks ≡ true) × (n < markRoom)
+rule-short true n h = (refl, omega (arith, leb-false markRoom n h))
+rule-short false n h = absurd (true≢false h)
+
+not-named : (d : Decoded) → isNamed d ≡ false → d ≡ malformed
+unfolding isNamed
+not-named (named path) e = absurd (true≢false e)
+not-named malformed e = refl
+
 module _ (a : Asked) where
+  -- what is known where they give 17 or 18; opening's refusals are 1 to 7
+  pub record ShortRoom : Type 0 where
+    pub asks : a .marks .asks ≡ true
+    pub short : a .lent .bytes < markRoom
+
+  pub record IllFormed : Type 0 where
+    pub enough : a .marks .asks ≡ true → markRoom ≤ a .lent .bytes
+    pub opens : opening meta (a .file) ≡ Check.Passed
+    pub ill : decode (a .marks .given) ≡ malformed
+
+  pub check-refused : (r : Refusal) → walkCheck a ≡ Check.Refused r → 8 ≤ numberOf r → ((r ≡ No.Room) × ShortRoom) ⊎ ((r ≡ No.Mark) × IllFormed)
+  unfolding walkCheck rule first
+  check-refused r e high = go (not (a .marks .asks) || leb markRoom (a .lent .bytes)) refl (opening meta (a .file)) refl (isNamed (decode (a .marks .given))) refl e
+    where
+      go : (room : Bool) → not (a .marks .asks) || leb markRoom (a .lent .bytes) ≡ room → (v : Check) → opening meta (a .file) ≡ v
+          → (well : Bool) → isNamed (decode (a .marks .given)) ≡ well
+          → first (rule room No.Room) (first v (rule well No.Mark)) ≡ Check.Refused r → ((r ≡ No.Room) × ShortRoom) ⊎ ((r ≡ No.Mark) × IllFormed)
+      go false er v ev well ew q =
+          let s = rule-short (a .marks .asks) (a .lent .bytes) er in
+          let same : No.Room ≡ r = cc in
+          inl (sym same, record { asks = s .0; short = s .1 })
+      go true er (Check.Refused s) ev well ew q =
+          let same : s ≡ r = cc in
+          absurd (omega (arith, one-to-seven meta (a .file) s ev, ap numberOf same))
+      go true er Check.Passed ev true ew q = absurd (not-both q)
+      go true er Check.Passed ev false ew q =
+          let same : No.Mark ≡ r = cc in
+          inr (sym same, record { enough = rule-room (a .marks .asks) (a .lent .bytes) er; opens = ev; ill = not-named (decode (a .marks .given)) ew })
+
   -- what is known once they have passed
   pub check-told : walkCheck a ≡ Check.Passed
       → (a .marks .asks ≡ true → markRoom ≤ a .lent .bytes) × (opening meta (a .file) ≡ Check.Passed)

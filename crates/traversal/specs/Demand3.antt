@@ -4,7 +4,7 @@ use Prim.Native.Nat.{ℕ, _≤_, _<_, min}
 use mathlib.Core.Bool.{true, false}
 use mathlib.Core.List.{List, [], _∷_, _++_, map}
 use mathlib.Core.Logic.{_↔_}
-use mathlib.Core.Path.{_≡_}
+use mathlib.Core.Path.{_≡_, refl}
 use lib.ListN.{length, getD, take, drop}
 use Rattle.refusal.specs.declared.Refusal.{Refusal}
 use Rattle.refusal.specs.declared.Refusal.the-variants as No
@@ -14,7 +14,7 @@ use Rattle.traversal.specs.declared.Walked.{Walked}
 use Rattle.traversal.specs.declared.Walked.the-variants.{Complete, Truncated, Refused}
 use Rattle.traversal.specs.Traversal.{Marks, Asked, listOf, traversal}
 use Rattle.traversal.specs.From.{upToMark}
-use Rattle.traversal.specs.Walk.{walkCheck, givenPath, trailFrom, markPassed, reached, walkedOf, numberListed, placeOf, Slices, askWith, LeavesFrom, itself}
+use Rattle.traversal.specs.Walk.{walkCheck, givenPath, trailFrom, walkOf, markPassed, reached, walkedOf, numberListed, placeOf, Slices, askWith, LeavesFrom, itself}
 
 -- a walk of a file as its caller sees it: marks given and asked for, what was lent, the answer, what stands there afterwards; as the
 -- contracts promise it
@@ -24,6 +24,17 @@ pub record Call (file : List ℕ) : Type 0 where
   pub answer : Walked
   pub now : Slices
   pub promised : LeavesFrom itself file marks was answer now
+
+-- a call whose answer is said in another way, as in words from C; `answers` of its promise ties the two
+abbrev pub callOf : {A : Type 0} {say : Walked → A} {file : List ℕ} {m : Marks} {was : Slices} {answer : A} {now : Slices}
+    → LeavesFrom say file m was answer now → Call file
+callOf {file = file} {m = m} {was = was} {now = now} l = record {
+  marks = m;
+  was = was;
+  answer = walkedOf (walkOf (askWith file m was));
+  now = now;
+  promised = record { answers = refl; lists = l .lists; fills = l .fills; recorded = l .recorded; marked = l .marked };
+}
 
 module _ {file : List ℕ} (c : Call file) where
   abbrev pub asked : Asked

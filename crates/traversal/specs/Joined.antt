@@ -1,8 +1,8 @@
 -- Going on from a mark, in facts: each outcome of a walk from a mark with all that it leaves, and parts that joined equal one walk.
 use Prim.Native.Nat.{ℕ, _+_, _≤_, _<_}
 use mathlib.Core.Bool.{true, false}
-use mathlib.Core.List.{List, [], _∷_, _++_}
-use mathlib.Core.Logic.{_⊎_}
+use mathlib.Core.List.{List, [], _∷_, _++_, map}
+use mathlib.Core.Logic.{_↔_, _⊎_}
 use mathlib.Core.Path.{_≡_}
 use lib.ListN.{length, take, drop, replicate}
 use Rattle.le.specs.Number.{number}
@@ -17,8 +17,8 @@ use Rattle.context.specs.Entry.{Entry}
 use Rattle.traversal.specs.declared.Walked.{Walked}
 use Rattle.traversal.specs.declared.Walked.the-variants.{Complete, Truncated, Refused}
 use Rattle.traversal.specs.Traversal.{on, refused, listOf, traversal}
-use Rattle.traversal.specs.From.{withList, afterMark, lastPath}
-use Rattle.traversal.specs.Walk.{walkCheck, trailFrom, markPassed}
+use Rattle.traversal.specs.From.{withList, lastPath}
+use Rattle.traversal.specs.Walk.{walkCheck, trailFrom, markPassed, placeOf, tableWith}
 use Rattle.traversal.specs.Demand3.{Call, asked, listedNumber, listedWords, listed, Untouched, In}
 
 -- the context that a path names is on a list; "before the first root .. always counts as passed"
@@ -45,6 +45,19 @@ module _ {file : List ℕ} (c : Call file) where
   abbrev pub contexts : List Entry
   contexts = listOf (traversal (asked c))
 
+  -- "if the mark is malformed .., or if the trail ends whole without passing the context it names"
+  abbrev pub MarkFails : Type 0
+  MarkFails =
+      (decode (c .marks .given) ≡ malformed)
+      ⊎ ((path : List ℕ) × (l : List Entry) × (decode (c .marks .given) ≡ named path) × (traversal (asked c) ≡ on l) × (OnTrail path l → ⊥))
+
+  -- as many of some contexts as the listing has words; these are listed, and others have slots
+  abbrev pub fitting : List Entry → List Entry
+  fitting l = take (length (c .was .listing)) l
+
+  abbrev pub ListsAndFills : (l m : List Entry) → Type 0
+  ListsAndFills l m = (listedWords c ≡ map placeOf (fitting l)) × (c .now .table ≡ tableWith m (length (c .was .table)))
+
   pub record Outcomes : Type 0 where
     -- "17 before opening, if fewer than 805 bytes are lent for the new mark"
     pub no-room : c .marks .asks ≡ true → length (c .was .mark) < 805 → Untouched c No.Room
@@ -56,9 +69,14 @@ module _ {file : List ℕ} (c : Call file) where
     -- "if the trail ends in a refusal before passing it, that refusal stands with 0 listed"
     pub refused-first : (path : List ℕ) → Begun path → (r : Refusal) (l : List Entry) → traversal (asked c) ≡ refused r l
         → (OnTrail path l → ⊥) → Cleared r
-    -- "lists from just after the mark"
-    pub goes-on : (path : List ℕ) → Begun path → OnTrail path contexts
-        → trailFrom (asked c) ≡ withList (traversal (asked c)) (afterMark path contexts)
+    -- 17 and 18 for nothing else
+    pub says-17 : ((n : ℕ) × (c .answer ≡ Refused No.Room n)) ↔ ((c .marks .asks ≡ true) × (length (c .was .mark) < 805))
+    pub says-18 : ((n : ℕ) × (c .answer ≡ Refused No.Mark n)) ↔ (Roomy × (opening meta file ≡ Check.Passed) × MarkFails)
+    -- "fills the table afresh for everything up to that new mark, and lists from just after the mark": from depth 0 the whole trail, and else
+    -- what follows the context that the mark names
+    pub from-roots : Begun [] → (trailFrom (asked c) ≡ traversal (asked c)) × ListsAndFills contexts (fitting contexts)
+    pub goes-on : (path : List ℕ) → Begun path → (before : List Entry) (e : Entry) (after : List Entry) → contexts ≡ before ++ (e ∷ after)
+        → e .path ≡ path → (trailFrom (asked c) ≡ withList (traversal (asked c)) after) × ListsAndFills after (before ++ (e ∷ fitting after))
     -- "a mark of the last context listed or, if none is, the mark it had; bytes after it stay"
     pub hands-out : (path : List ℕ) → Begun path → OnTrail path contexts → c .marks .asks ≡ true
         → (take (length (encode (lastPath path (listed c)))) (c .now .mark) ≡ encode (lastPath path (listed c)))

@@ -55,10 +55,10 @@ module _ (E : Parameters) (l : List Entry) (table : List ℕ) (filled : table �
       go true e = rw (taken-seen slots id l placed (ltb-true id slots e))
       go false e = no-slot depth id slots (seen id l) (taken (tableWith l slots) id) e
 
-  pub judged : (path : List ℕ) (depth p stop : ℕ) → length path ≡ depth → contextRule (E .asked .file) p stop ≡ true
+  pub by-table : (path : List ℕ) (depth p stop : ℕ) → length path ≡ depth → contextRule (E .asked .file) p stop ≡ true
       → visitCheck E path p stop l ≡ checksAfter10 (E .asked .file) (E .targets) depth p table
   unfolding visitCheck checksAfter10 rule first
-  judged path depth p stop d fine = rw (fine, d, same-slot depth (field (E .asked .file) p ctxId))
+  by-table path depth p stop d fine = rw (fine, d, same-slot depth (field (E .asked .file) p ctxId))
 
 -- what the checks say once they have passed
 pub record Safe (file : List ℕ) (t : Targets) (depth p : ℕ) (table : List ℕ) : Type 0 where

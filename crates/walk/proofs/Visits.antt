@@ -18,7 +18,7 @@ use Rattle.traversal.specs.Traversal.{Parameters, limited, visitCheck, depthLim
 use Rattle.traversal.specs.Walk.{Slices, slices, askWith, unmarked}
 use Rattle.traversal.proofs.Steps.{rest-end, level-rest, visit-refused, visit-cut, visit-on}
 use Rattle.visit.specs.Visit.{checksAfter10, RecordPut}
-use Rattle.visit.proofs.Checks.{judged, safe}
+use Rattle.visit.proofs.Checks.{by-table, safe}
 use Rattle.walk.specs.State.{Holds, ArrayDoes, ContextDoes}
 use Rattle.walk.proofs.Slices.{long, one-more}
 use Rattle.walk.proofs.Going.{done-cut, done-refused, done-complete}
@@ -38,7 +38,7 @@ module _ (file : List ℕ) (t : Targets) (depth p stop n : ℕ) (s : Slices) whe
 
   module _ (fine : contextRule file p stop ≡ true) where
     checked : (was : Slices) (l : List Entry) (path : List ℕ) → length path ≡ depth → Holds was l s n → visitCheck (E was) path p stop l ≡ checks
-    checked was l path d h = judged (E was) l (s .table) (h .filled) (h .placed) path depth p stop d fine
+    checked was l path d h = by-table (E was) l (s .table) (h .filled) (h .placed) path depth p stop d fine
 
     pub does-refused : (c : Check) (r : Refusal) → c ≡ checks → c ≡ Check.Refused r → ContextDoes file t depth p stop n s (Refused r n) s
     does-refused c r e z was l parent path d h =

@@ -1,4 +1,4 @@
--- The loop keeps `Flat`: by whether the array is done, and what the verdict on the next context is. Twice the free slots of the table
+-- The loop keeps `Flat`: by whether the array is done, and how the visit of the next context is answered. Twice the free slots of the table
 -- and the depth fall.
 use Prim.Native.Nat.{ℕ, suc, _+_, _*_, _-_, _≤_, _<_}
 use mathlib.Core.List.{List, [], _∷_}
@@ -160,8 +160,8 @@ add-depth c =
     let loop = c .before .loop in
     omega (arith, loop .inv .5 unmarked 0 .shallow)
 
-judge-requires : tie.Need-judge-requires Inv-loop μ-loop
-judge-requires c κs =
+visit-answer-requires : tie.Need-visit-answer-requires Inv-loop μ-loop
+visit-answer-requires c κs =
     let args = c .before .before .before .before .before .before .before .before .before .before .args in
     let loop = c .before .before .loop in
     let if1 = c .before .if1 in
@@ -193,7 +193,7 @@ returns-2 c =
     let args = c .before .before .before .before .before .before .before .before .before .before .before .before .args in
     let loop = c .before .before .before .before .loop in
     let if1 = c .before .before .before .if1 in
-    let judge = c .before .judge in
+    let visit-answer = c .before .visit-answer in
     let match = c .match in
     let file = now (args .file) in
     let t = targetsIn (now (args .targets)) in
@@ -201,14 +201,14 @@ returns-2 c =
     let was = slices (now (args .listing)) (now (args .table)) (now (args .records)) in
     let s = slices (loop .listing) (loop .table) (loop .records) in
     let open-ended : loop .p < loop .end = omega (arith, if1 .left) in
-    λ m b. flat-stops file t path was (args .at) (args .stop) m b s (loop .way) (loop .up) (loop .p) (loop .end) (loop .k) (loop .seek) (loop .inv .5 m b) open-ended (judge .result) (judge .ensures) (not-complete (judge .result) (match .keys2))
+    λ m b. flat-stops file t path was (args .at) (args .stop) m b s (loop .way) (loop .up) (loop .p) (loop .end) (loop .k) (loop .seek) (loop .inv .5 m b) open-ended (visit-answer .result) (visit-answer .ensures) (not-complete (visit-answer .result) (match .keys2))
 
-keep-requires : tie.Need-keep-requires Inv-loop μ-loop
-keep-requires c κs =
+store-visit-requires : tie.Need-store-visit-requires Inv-loop μ-loop
+store-visit-requires c κs =
     let args = c .before .before .before .before .before .before .before .before .before .before .before .before .before .before .before .args in
     let loop = c .before .before .before .before .before .before .before .loop in
     let if1 = c .before .before .before .before .before .before .if1 in
-    let judge = c .before .before .before .before .judge in
+    let visit-answer = c .before .before .before .before .visit-answer in
     let enum-told = c .before .before .enum-told in
     let pre = c .before .before .before .before .before .before .before .before .before .before .before .before .before .before .before .pre in
     let file = now (args .file) in
@@ -217,7 +217,7 @@ keep-requires c κs =
     let was = slices (now (args .listing)) (now (args .table)) (now (args .records)) in
     let s = slices (loop .listing) (loop .table) (loop .records) in
     let open-ended : loop .p < loop .end = omega (arith, if1 .left) in
-    let goes = flat-goes file t path was (args .at) (args .stop) unmarked 0 s (loop .way) (loop .up) (loop .p) (loop .end) (loop .k) (loop .seek) (loop .inv .5 unmarked 0) open-ended (judge .result) (enum-told .given .0 .0) (judge .ensures) (enum-told .given .1) in
+    let goes = flat-goes file t path was (args .at) (args .stop) unmarked 0 s (loop .way) (loop .up) (loop .p) (loop .end) (loop .k) (loop .seek) (loop .inv .5 unmarked 0) open-ended (visit-answer .result) (enum-told .given .0 .0) (visit-answer .ensures) (enum-told .given .1) in
     let sound = flat-sound file t path was (args .at) (args .stop) unmarked 0 s (loop .way) (loop .up) (loop .p) (loop .end) (loop .k) (loop .seek) (loop .inv .5 unmarked 0) open-ended (pre .0 .1) (pre .0 .2) goes in
     (omega (arith, ends-after file (loop .p), sound .reads), (sound .slot, omega (arith, sound .deeper)))
 
@@ -232,7 +232,7 @@ list-requires c κs =
     let args = c .before .before .before .before .before .before .before .before .before .before .before .before .before .before .before .before .before .before .before .before .before .before .args in
     let loop = c .before .before .before .before .before .before .before .before .before .before .before .before .before .before .loop in
     let if1 = c .before .before .before .before .before .before .before .before .before .before .before .before .before .if1 in
-    let judge = c .before .before .before .before .before .before .before .before .before .before .before .judge in
+    let visit-answer = c .before .before .before .before .before .before .before .before .before .before .before .visit-answer in
     let enum-told = c .before .before .before .before .before .before .before .before .before .enum-told in
     let pre = c .before .before .before .before .before .before .before .before .before .before .before .before .before .before .before .before .before .before .before .before .before .before .pre in
     let file = now (args .file) in
@@ -241,7 +241,7 @@ list-requires c κs =
     let was = slices (now (args .listing)) (now (args .table)) (now (args .records)) in
     let s = slices (loop .listing) (loop .table) (loop .records) in
     let open-ended : loop .p < loop .end = omega (arith, if1 .left) in
-    let goes = flat-goes file t path was (args .at) (args .stop) unmarked 0 s (loop .way) (loop .up) (loop .p) (loop .end) (loop .k) (loop .seek) (loop .inv .5 unmarked 0) open-ended (judge .result) (enum-told .given .0 .0) (judge .ensures) (enum-told .given .1) in
+    let goes = flat-goes file t path was (args .at) (args .stop) unmarked 0 s (loop .way) (loop .up) (loop .p) (loop .end) (loop .k) (loop .seek) (loop .inv .5 unmarked 0) open-ended (visit-answer .result) (enum-told .given .0 .0) (visit-answer .ensures) (enum-told .given .1) in
     let sound = flat-sound file t path was (args .at) (args .stop) unmarked 0 s (loop .way) (loop .up) (loop .p) (loop .end) (loop .k) (loop .seek) (loop .inv .5 unmarked 0) open-ended (pre .0 .1) (pre .0 .2) goes in
     (sound .can, goes .fits)
 
@@ -250,7 +250,7 @@ load-u64-requires c κs =
     let args = c .before .before .before .before .before .before .before .before .before .before .before .before .before .before .before .before .before .before .before .before .before .before .before .before .before .before .before .args in
     let loop = c .before .before .before .before .before .before .before .before .before .before .before .before .before .before .before .before .before .before .before .loop in
     let if1 = c .before .before .before .before .before .before .before .before .before .before .before .before .before .before .before .before .before .before .if1 in
-    let judge = c .before .before .before .before .before .before .before .before .before .before .before .before .before .before .before .before .judge in
+    let visit-answer = c .before .before .before .before .before .before .before .before .before .before .before .before .before .before .before .before .visit-answer in
     let enum-told = c .before .before .before .before .before .before .before .before .before .before .before .before .before .before .enum-told in
     let pre = c .before .before .before .before .before .before .before .before .before .before .before .before .before .before .before .before .before .before .before .before .before .before .before .before .before .before .before .pre in
     let file = now (args .file) in
@@ -259,7 +259,7 @@ load-u64-requires c κs =
     let was = slices (now (args .listing)) (now (args .table)) (now (args .records)) in
     let s = slices (loop .listing) (loop .table) (loop .records) in
     let open-ended : loop .p < loop .end = omega (arith, if1 .left) in
-    let goes = flat-goes file t path was (args .at) (args .stop) unmarked 0 s (loop .way) (loop .up) (loop .p) (loop .end) (loop .k) (loop .seek) (loop .inv .5 unmarked 0) open-ended (judge .result) (enum-told .given .0 .0) (judge .ensures) (enum-told .given .1) in
+    let goes = flat-goes file t path was (args .at) (args .stop) unmarked 0 s (loop .way) (loop .up) (loop .p) (loop .end) (loop .k) (loop .seek) (loop .inv .5 unmarked 0) open-ended (visit-answer .result) (enum-told .given .0 .0) (visit-answer .ensures) (enum-told .given .1) in
     let sound = flat-sound file t path was (args .at) (args .stop) unmarked 0 s (loop .way) (loop .up) (loop .p) (loop .end) (loop .k) (loop .seek) (loop .inv .5 unmarked 0) open-ended (pre .0 .1) (pre .0 .2) goes in
     omega (arith, ends-after file (loop .p), sound .reads)
 
@@ -268,7 +268,7 @@ extent-requires c κs =
     let args = c .before .before .before .before .before .before .before .before .before .before .before .before .before .before .before .before .before .before .before .before .before .before .before .before .before .before .before .before .before .args in
     let loop = c .before .before .before .before .before .before .before .before .before .before .before .before .before .before .before .before .before .before .before .before .before .loop in
     let if1 = c .before .before .before .before .before .before .before .before .before .before .before .before .before .before .before .before .before .before .before .before .if1 in
-    let judge = c .before .before .before .before .before .before .before .before .before .before .before .before .before .before .before .before .before .before .judge in
+    let visit-answer = c .before .before .before .before .before .before .before .before .before .before .before .before .before .before .before .before .before .before .visit-answer in
     let enum-told = c .before .before .before .before .before .before .before .before .before .before .before .before .before .before .before .before .enum-told in
     let pre = c .before .before .before .before .before .before .before .before .before .before .before .before .before .before .before .before .before .before .before .before .before .before .before .before .before .before .before .before .before .pre in
     let file = now (args .file) in
@@ -277,7 +277,7 @@ extent-requires c κs =
     let was = slices (now (args .listing)) (now (args .table)) (now (args .records)) in
     let s = slices (loop .listing) (loop .table) (loop .records) in
     let open-ended : loop .p < loop .end = omega (arith, if1 .left) in
-    let goes = flat-goes file t path was (args .at) (args .stop) unmarked 0 s (loop .way) (loop .up) (loop .p) (loop .end) (loop .k) (loop .seek) (loop .inv .5 unmarked 0) open-ended (judge .result) (enum-told .given .0 .0) (judge .ensures) (enum-told .given .1) in
+    let goes = flat-goes file t path was (args .at) (args .stop) unmarked 0 s (loop .way) (loop .up) (loop .p) (loop .end) (loop .k) (loop .seek) (loop .inv .5 unmarked 0) open-ended (visit-answer .result) (enum-told .given .0 .0) (visit-answer .ensures) (enum-told .given .1) in
     let sound = flat-sound file t path was (args .at) (args .stop) unmarked 0 s (loop .way) (loop .up) (loop .p) (loop .end) (loop .k) (loop .seek) (loop .inv .5 unmarked 0) open-ended (pre .0 .1) (pre .0 .2) goes in
     omega (arith, ends-after file (loop .p), sound .reads)
 
@@ -286,7 +286,7 @@ add-p c =
     let args = c .before .before .before .before .before .before .before .before .before .before .before .before .before .before .before .before .before .before .before .before .before .before .before .before .before .before .before .before .before .before .args in
     let loop = c .before .before .before .before .before .before .before .before .before .before .before .before .before .before .before .before .before .before .before .before .before .before .loop in
     let if1 = c .before .before .before .before .before .before .before .before .before .before .before .before .before .before .before .before .before .before .before .before .before .if1 in
-    let judge = c .before .before .before .before .before .before .before .before .before .before .before .before .before .before .before .before .before .before .before .judge in
+    let visit-answer = c .before .before .before .before .before .before .before .before .before .before .before .before .before .before .before .before .before .before .before .visit-answer in
     let enum-told = c .before .before .before .before .before .before .before .before .before .before .before .before .before .before .before .before .before .enum-told in
     let pre = c .before .before .before .before .before .before .before .before .before .before .before .before .before .before .before .before .before .before .before .before .before .before .before .before .before .before .before .before .before .before .pre in
     let extent = c .extent in
@@ -297,7 +297,7 @@ add-p c =
     let was = slices (now (args .listing)) (now (args .table)) (now (args .records)) in
     let s = slices (loop .listing) (loop .table) (loop .records) in
     let open-ended : loop .p < loop .end = omega (arith, if1 .left) in
-    let goes = flat-goes file t path was (args .at) (args .stop) unmarked 0 s (loop .way) (loop .up) (loop .p) (loop .end) (loop .k) (loop .seek) (loop .inv .5 unmarked 0) open-ended (judge .result) (enum-told .given .0 .0) (judge .ensures) (enum-told .given .1) in
+    let goes = flat-goes file t path was (args .at) (args .stop) unmarked 0 s (loop .way) (loop .up) (loop .p) (loop .end) (loop .k) (loop .seek) (loop .inv .5 unmarked 0) open-ended (visit-answer .result) (enum-told .given .0 .0) (visit-answer .ensures) (enum-told .given .1) in
     let sound = flat-sound file t path was (args .at) (args .stop) unmarked 0 s (loop .way) (loop .up) (loop .p) (loop .end) (loop .k) (loop .seek) (loop .inv .5 unmarked 0) open-ended (pre .0 .1) (pre .0 .2) goes in
     omega (arith, extent .ensures, sound .reads, good)
 
@@ -306,32 +306,32 @@ loop-less-2 c =
     let args = c .before .before .before .before .before .before .before .before .before .before .before .before .before .before .before .before .before .before .before .before .before .before .before .before .before .before .before .before .before .before .args in
     let loop = c .before .before .before .before .before .before .before .before .before .before .before .before .before .before .before .before .before .before .before .before .before .before .loop in
     let if1 = c .before .before .before .before .before .before .before .before .before .before .before .before .before .before .before .before .before .before .before .before .before .if1 in
-    let judge = c .before .before .before .before .before .before .before .before .before .before .before .before .before .before .before .before .before .before .before .judge in
+    let visit-answer = c .before .before .before .before .before .before .before .before .before .before .before .before .before .before .before .before .before .before .before .visit-answer in
     let enum-told = c .before .before .before .before .before .before .before .before .before .before .before .before .before .before .before .before .before .enum-told in
     let pre = c .before .before .before .before .before .before .before .before .before .before .before .before .before .before .before .before .before .before .before .before .before .before .before .before .before .before .before .before .before .before .pre in
-    let kept = c .before .before .before .before .before .before .before .before .before .before .before .before .before .before .keep in
+    let stored = c .before .before .before .before .before .before .before .before .before .before .before .before .before .before .store-visit in
     let file = now (args .file) in
     let t = targetsIn (now (args .targets)) in
     let path = pathIn (decode (now (args .mark))) in
     let was = slices (now (args .listing)) (now (args .table)) (now (args .records)) in
     let s = slices (loop .listing) (loop .table) (loop .records) in
     let open-ended : loop .p < loop .end = omega (arith, if1 .left) in
-    let goes = flat-goes file t path was (args .at) (args .stop) unmarked 0 s (loop .way) (loop .up) (loop .p) (loop .end) (loop .k) (loop .seek) (loop .inv .5 unmarked 0) open-ended (judge .result) (enum-told .given .0 .0) (judge .ensures) (enum-told .given .1) in
+    let goes = flat-goes file t path was (args .at) (args .stop) unmarked 0 s (loop .way) (loop .up) (loop .p) (loop .end) (loop .k) (loop .seek) (loop .inv .5 unmarked 0) open-ended (visit-answer .result) (enum-told .given .0 .0) (visit-answer .ensures) (enum-told .given .1) in
     let sound = flat-sound file t path was (args .at) (args .stop) unmarked 0 s (loop .way) (loop .up) (loop .p) (loop .end) (loop .k) (loop .seek) (loop .inv .5 unmarked 0) open-ended (pre .0 .1) (pre .0 .2) goes in
     let filled = fills (loop .table) (field file (loop .p) ctxId) (loop .p) (sound .slot) (sound .fresh) (loop .inv .3) in
-    rw (kept .ensures .0) (omega (arith, filled))
+    rw (stored .ensures .0) (omega (arith, filled))
 
 loop-again-2 : tie.Need-loop-again-2 Inv-loop μ-loop
 loop-again-2 c =
     let args = c .before .before .before .before .before .before .before .before .before .before .before .before .before .before .before .before .before .before .before .before .before .before .before .before .before .before .before .before .before .before .args in
     let loop = c .before .before .before .before .before .before .before .before .before .before .before .before .before .before .before .before .before .before .before .before .before .before .loop in
     let if1 = c .before .before .before .before .before .before .before .before .before .before .before .before .before .before .before .before .before .before .before .before .before .if1 in
-    let judge = c .before .before .before .before .before .before .before .before .before .before .before .before .before .before .before .before .before .before .before .judge in
+    let visit-answer = c .before .before .before .before .before .before .before .before .before .before .before .before .before .before .before .before .before .before .before .visit-answer in
     let enum-told = c .before .before .before .before .before .before .before .before .before .before .before .before .before .before .before .before .before .enum-told in
     let pre = c .before .before .before .before .before .before .before .before .before .before .before .before .before .before .before .before .before .before .before .before .before .before .before .before .before .before .before .before .before .before .pre in
     let load-u64 = c .before .before .load-u64 in
     let listed = c .before .before .before .before .before .before .before .list in
-    let kept = c .before .before .before .before .before .before .before .before .before .before .before .before .before .before .keep in
+    let stored = c .before .before .before .before .before .before .before .before .before .before .before .before .before .before .store-visit in
     let step = c .before .before .before .before .before .before .before .before .before .before .before .step-until-passed in
     let depth = c .before .before .before .before .before .before .before .before .before .before .before .before .before .before .before .before .before .before .before .before .before .before .before .before .depth in
     let extent = c .extent in
@@ -342,17 +342,17 @@ loop-again-2 c =
     let was = slices (now (args .listing)) (now (args .table)) (now (args .records)) in
     let s = slices (loop .listing) (loop .table) (loop .records) in
     let open-ended : loop .p < loop .end = omega (arith, if1 .left) in
-    let goes = flat-goes file t path was (args .at) (args .stop) unmarked 0 s (loop .way) (loop .up) (loop .p) (loop .end) (loop .k) (loop .seek) (loop .inv .5 unmarked 0) open-ended (judge .result) (enum-told .given .0 .0) (judge .ensures) (enum-told .given .1) in
+    let goes = flat-goes file t path was (args .at) (args .stop) unmarked 0 s (loop .way) (loop .up) (loop .p) (loop .end) (loop .k) (loop .seek) (loop .inv .5 unmarked 0) open-ended (visit-answer .result) (enum-told .given .0 .0) (visit-answer .ensures) (enum-told .given .1) in
     let sound = flat-sound file t path was (args .at) (args .stop) unmarked 0 s (loop .way) (loop .up) (loop .p) (loop .end) (loop .k) (loop .seek) (loop .inv .5 unmarked 0) open-ended (pre .0 .1) (pre .0 .2) goes in
     let room : suc (loop .up) < length (loop .way) = omega (arith, loop .inv .4, sound .deeper) in
     let size = bytes-read file (loop .p) (load-u64 .result) (load-u64 .ensures) in (
       listed .kept .1 .1 .1 .1 .0 ∙ loop .inv .0,
-      ap length (kept .ensures .0) ∙ length-set (loop .table) (field file (loop .p) ctxId) (loop .p) ∙ loop .inv .1,
+      ap length (stored .ensures .0) ∙ length-set (loop .table) (field file (loop .p) ctxId) (loop .p) ∙ loop .inv .1,
       listed .kept .1 .1 .1 .1 .1 .0 ∙ loop .inv .2,
       omega (arith, loop .inv .3),
-      ap length (kept .ensures .1) ∙ length-set (set (loop .way) 0 (loop .up + 1)) (loop .up + 1) (loop .p)
+      ap length (stored .ensures .1) ∙ length-set (set (loop .way) 0 (loop .up + 1)) (loop .up + 1) (loop .p)
           ∙ length-set (loop .way) 0 (loop .up + 1) ∙ loop .inv .4,
-      λ m b. rw (listed .ensures .0, listed .ensures .1 .0, kept .ensures .0, kept .ensures .1) (flat-leaf file t path was (args .at) (args .stop) m b s (loop .way) (loop .up) (loop .p) (loop .end) (loop .k) (loop .seek) (loop .inv .5 m b) open-ended goes (step .result) (step .ensures) (eqb (step .result .matched) (depth .result)) (ap (eqb (step .result .matched)) (depth .ensures)) (listed .last .1 .1 .1 .1 .1 .0) (listed .ensures .1 .1) (loop .inv .3) room (sound .lies) (extent .result) (load-u64 .result) (extent .ensures) size (if3 .taken)),
+      λ m b. rw (listed .ensures .0, listed .ensures .1 .0, stored .ensures .0, stored .ensures .1) (flat-leaf file t path was (args .at) (args .stop) m b s (loop .way) (loop .up) (loop .p) (loop .end) (loop .k) (loop .seek) (loop .inv .5 m b) open-ended goes (step .result) (step .ensures) (eqb (step .result .matched) (depth .result)) (ap (eqb (step .result .matched)) (depth .ensures)) (listed .last .1 .1 .1 .1 .1 .0) (listed .ensures .1 .1) (loop .inv .3) room (sound .lies) (extent .result) (load-u64 .result) (extent .ensures) size (if3 .taken)),
     )
 
 add-load-u64 : tie.Need-add-load-u64 Inv-loop μ-loop
@@ -360,7 +360,7 @@ add-load-u64 c =
     let args = c .before .before .before .before .before .before .before .before .before .before .before .before .before .before .before .before .before .before .before .before .before .before .before .before .before .before .before .before .before .args in
     let loop = c .before .before .before .before .before .before .before .before .before .before .before .before .before .before .before .before .before .before .before .before .before .loop in
     let if1 = c .before .before .before .before .before .before .before .before .before .before .before .before .before .before .before .before .before .before .before .before .if1 in
-    let judge = c .before .before .before .before .before .before .before .before .before .before .before .before .before .before .before .before .before .before .judge in
+    let visit-answer = c .before .before .before .before .before .before .before .before .before .before .before .before .before .before .before .before .before .before .visit-answer in
     let enum-told = c .before .before .before .before .before .before .before .before .before .before .before .before .before .before .before .before .enum-told in
     let pre = c .before .before .before .before .before .before .before .before .before .before .before .before .before .before .before .before .before .before .before .before .before .before .before .before .before .before .before .before .before .pre in
     let good = c .before .before .before .before .before .before .before .before .before .before .before .before .before .before .before .before .before .before .before .before .before .before .before .before .before .before .before .before .before .good in
@@ -370,7 +370,7 @@ add-load-u64 c =
     let was = slices (now (args .listing)) (now (args .table)) (now (args .records)) in
     let s = slices (loop .listing) (loop .table) (loop .records) in
     let open-ended : loop .p < loop .end = omega (arith, if1 .left) in
-    let goes = flat-goes file t path was (args .at) (args .stop) unmarked 0 s (loop .way) (loop .up) (loop .p) (loop .end) (loop .k) (loop .seek) (loop .inv .5 unmarked 0) open-ended (judge .result) (enum-told .given .0 .0) (judge .ensures) (enum-told .given .1) in
+    let goes = flat-goes file t path was (args .at) (args .stop) unmarked 0 s (loop .way) (loop .up) (loop .p) (loop .end) (loop .k) (loop .seek) (loop .inv .5 unmarked 0) open-ended (visit-answer .result) (enum-told .given .0 .0) (visit-answer .ensures) (enum-told .given .1) in
     let sound = flat-sound file t path was (args .at) (args .stop) unmarked 0 s (loop .way) (loop .up) (loop .p) (loop .end) (loop .k) (loop .seek) (loop .inv .5 unmarked 0) open-ended (pre .0 .1) (pre .0 .2) goes in
     omega (arith, ends-after file (loop .p), sound .reads, good)
 
@@ -379,7 +379,7 @@ load-u64-requires-2 c κs =
     let args = c .before .before .before .before .before .before .before .before .before .before .before .before .before .before .before .before .before .before .before .before .before .before .before .before .before .before .before .before .before .args in
     let loop = c .before .before .before .before .before .before .before .before .before .before .before .before .before .before .before .before .before .before .before .before .before .loop in
     let if1 = c .before .before .before .before .before .before .before .before .before .before .before .before .before .before .before .before .before .before .before .before .if1 in
-    let judge = c .before .before .before .before .before .before .before .before .before .before .before .before .before .before .before .before .before .before .judge in
+    let visit-answer = c .before .before .before .before .before .before .before .before .before .before .before .before .before .before .before .before .before .before .visit-answer in
     let enum-told = c .before .before .before .before .before .before .before .before .before .before .before .before .before .before .before .before .enum-told in
     let pre = c .before .before .before .before .before .before .before .before .before .before .before .before .before .before .before .before .before .before .before .before .before .before .before .before .before .before .before .before .before .pre in
     let file = now (args .file) in
@@ -388,7 +388,7 @@ load-u64-requires-2 c κs =
     let was = slices (now (args .listing)) (now (args .table)) (now (args .records)) in
     let s = slices (loop .listing) (loop .table) (loop .records) in
     let open-ended : loop .p < loop .end = omega (arith, if1 .left) in
-    let goes = flat-goes file t path was (args .at) (args .stop) unmarked 0 s (loop .way) (loop .up) (loop .p) (loop .end) (loop .k) (loop .seek) (loop .inv .5 unmarked 0) open-ended (judge .result) (enum-told .given .0 .0) (judge .ensures) (enum-told .given .1) in
+    let goes = flat-goes file t path was (args .at) (args .stop) unmarked 0 s (loop .way) (loop .up) (loop .p) (loop .end) (loop .k) (loop .seek) (loop .inv .5 unmarked 0) open-ended (visit-answer .result) (enum-told .given .0 .0) (visit-answer .ensures) (enum-told .given .1) in
     let sound = flat-sound file t path was (args .at) (args .stop) unmarked 0 s (loop .way) (loop .up) (loop .p) (loop .end) (loop .k) (loop .seek) (loop .inv .5 unmarked 0) open-ended (pre .0 .1) (pre .0 .2) goes in
     omega (arith, ends-after file (loop .p), sound .reads)
 
@@ -397,7 +397,7 @@ add-end c =
     let args = c .before .before .before .before .before .before .before .before .before .before .before .before .before .before .before .before .before .before .before .before .before .before .before .before .before .before .before .before .before .before .args in
     let loop = c .before .before .before .before .before .before .before .before .before .before .before .before .before .before .before .before .before .before .before .before .before .before .loop in
     let if1 = c .before .before .before .before .before .before .before .before .before .before .before .before .before .before .before .before .before .before .before .before .before .if1 in
-    let judge = c .before .before .before .before .before .before .before .before .before .before .before .before .before .before .before .before .before .before .before .judge in
+    let visit-answer = c .before .before .before .before .before .before .before .before .before .before .before .before .before .before .before .before .before .before .before .visit-answer in
     let enum-told = c .before .before .before .before .before .before .before .before .before .before .before .before .before .before .before .before .before .enum-told in
     let pre = c .before .before .before .before .before .before .before .before .before .before .before .before .before .before .before .before .before .before .before .before .before .before .before .before .before .before .before .before .before .before .pre in
     let load-u64 = c .before .before .load-u64 in
@@ -410,7 +410,7 @@ add-end c =
     let was = slices (now (args .listing)) (now (args .table)) (now (args .records)) in
     let s = slices (loop .listing) (loop .table) (loop .records) in
     let open-ended : loop .p < loop .end = omega (arith, if1 .left) in
-    let goes = flat-goes file t path was (args .at) (args .stop) unmarked 0 s (loop .way) (loop .up) (loop .p) (loop .end) (loop .k) (loop .seek) (loop .inv .5 unmarked 0) open-ended (judge .result) (enum-told .given .0 .0) (judge .ensures) (enum-told .given .1) in
+    let goes = flat-goes file t path was (args .at) (args .stop) unmarked 0 s (loop .way) (loop .up) (loop .p) (loop .end) (loop .k) (loop .seek) (loop .inv .5 unmarked 0) open-ended (visit-answer .result) (enum-told .given .0 .0) (visit-answer .ensures) (enum-told .given .1) in
     let sound = flat-sound file t path was (args .at) (args .stop) unmarked 0 s (loop .way) (loop .up) (loop .p) (loop .end) (loop .k) (loop .seek) (loop .inv .5 unmarked 0) open-ended (pre .0 .1) (pre .0 .2) goes in
     let size = bytes-read file (loop .p) (load-u64 .result) (load-u64 .ensures) in
     let place = place-read file (loop .p) (load-u642 .result) (load-u642 .ensures) in
@@ -422,34 +422,34 @@ loop-less-3 c =
     let args = c .before .before .before .before .before .before .before .before .before .before .before .before .before .before .before .before .before .before .before .before .before .before .before .before .before .before .before .before .before .before .args in
     let loop = c .before .before .before .before .before .before .before .before .before .before .before .before .before .before .before .before .before .before .before .before .before .before .loop in
     let if1 = c .before .before .before .before .before .before .before .before .before .before .before .before .before .before .before .before .before .before .before .before .before .if1 in
-    let judge = c .before .before .before .before .before .before .before .before .before .before .before .before .before .before .before .before .before .before .before .judge in
+    let visit-answer = c .before .before .before .before .before .before .before .before .before .before .before .before .before .before .before .before .before .before .before .visit-answer in
     let enum-told = c .before .before .before .before .before .before .before .before .before .before .before .before .before .before .before .before .before .enum-told in
     let pre = c .before .before .before .before .before .before .before .before .before .before .before .before .before .before .before .before .before .before .before .before .before .before .before .before .before .before .before .before .before .before .pre in
-    let kept = c .before .before .before .before .before .before .before .before .before .before .before .before .before .before .keep in
+    let stored = c .before .before .before .before .before .before .before .before .before .before .before .before .before .before .store-visit in
     let file = now (args .file) in
     let t = targetsIn (now (args .targets)) in
     let path = pathIn (decode (now (args .mark))) in
     let was = slices (now (args .listing)) (now (args .table)) (now (args .records)) in
     let s = slices (loop .listing) (loop .table) (loop .records) in
     let open-ended : loop .p < loop .end = omega (arith, if1 .left) in
-    let goes = flat-goes file t path was (args .at) (args .stop) unmarked 0 s (loop .way) (loop .up) (loop .p) (loop .end) (loop .k) (loop .seek) (loop .inv .5 unmarked 0) open-ended (judge .result) (enum-told .given .0 .0) (judge .ensures) (enum-told .given .1) in
+    let goes = flat-goes file t path was (args .at) (args .stop) unmarked 0 s (loop .way) (loop .up) (loop .p) (loop .end) (loop .k) (loop .seek) (loop .inv .5 unmarked 0) open-ended (visit-answer .result) (enum-told .given .0 .0) (visit-answer .ensures) (enum-told .given .1) in
     let sound = flat-sound file t path was (args .at) (args .stop) unmarked 0 s (loop .way) (loop .up) (loop .p) (loop .end) (loop .k) (loop .seek) (loop .inv .5 unmarked 0) open-ended (pre .0 .1) (pre .0 .2) goes in
     let filled = fills (loop .table) (field file (loop .p) ctxId) (loop .p) (sound .slot) (sound .fresh) (loop .inv .3) in
-    rw (kept .ensures .0) (omega (arith, filled))
+    rw (stored .ensures .0) (omega (arith, filled))
 
 loop-again-3 : tie.Need-loop-again-3 Inv-loop μ-loop
 loop-again-3 c =
     let args = c .before .before .before .before .before .before .before .before .before .before .before .before .before .before .before .before .before .before .before .before .before .before .before .before .before .before .before .before .before .before .args in
     let loop = c .before .before .before .before .before .before .before .before .before .before .before .before .before .before .before .before .before .before .before .before .before .before .loop in
     let if1 = c .before .before .before .before .before .before .before .before .before .before .before .before .before .before .before .before .before .before .before .before .before .if1 in
-    let judge = c .before .before .before .before .before .before .before .before .before .before .before .before .before .before .before .before .before .before .before .judge in
+    let visit-answer = c .before .before .before .before .before .before .before .before .before .before .before .before .before .before .before .before .before .before .before .visit-answer in
     let enum-told = c .before .before .before .before .before .before .before .before .before .before .before .before .before .before .before .before .before .enum-told in
     let pre = c .before .before .before .before .before .before .before .before .before .before .before .before .before .before .before .before .before .before .before .before .before .before .before .before .before .before .before .before .before .before .pre in
     let load-u64 = c .before .before .load-u64 in
     let load-u642 = c .load-u642 in
     let if3 = c .before .if3 in
     let listed = c .before .before .before .before .before .before .before .list in
-    let kept = c .before .before .before .before .before .before .before .before .before .before .before .before .before .before .keep in
+    let stored = c .before .before .before .before .before .before .before .before .before .before .before .before .before .before .store-visit in
     let step = c .before .before .before .before .before .before .before .before .before .before .before .step-until-passed in
     let depth = c .before .before .before .before .before .before .before .before .before .before .before .before .before .before .before .before .before .before .before .before .before .before .before .before .depth in
     let file = now (args .file) in
@@ -458,19 +458,19 @@ loop-again-3 c =
     let was = slices (now (args .listing)) (now (args .table)) (now (args .records)) in
     let s = slices (loop .listing) (loop .table) (loop .records) in
     let open-ended : loop .p < loop .end = omega (arith, if1 .left) in
-    let goes = flat-goes file t path was (args .at) (args .stop) unmarked 0 s (loop .way) (loop .up) (loop .p) (loop .end) (loop .k) (loop .seek) (loop .inv .5 unmarked 0) open-ended (judge .result) (enum-told .given .0 .0) (judge .ensures) (enum-told .given .1) in
+    let goes = flat-goes file t path was (args .at) (args .stop) unmarked 0 s (loop .way) (loop .up) (loop .p) (loop .end) (loop .k) (loop .seek) (loop .inv .5 unmarked 0) open-ended (visit-answer .result) (enum-told .given .0 .0) (visit-answer .ensures) (enum-told .given .1) in
     let sound = flat-sound file t path was (args .at) (args .stop) unmarked 0 s (loop .way) (loop .up) (loop .p) (loop .end) (loop .k) (loop .seek) (loop .inv .5 unmarked 0) open-ended (pre .0 .1) (pre .0 .2) goes in
     let room : suc (loop .up) < length (loop .way) = omega (arith, loop .inv .4, sound .deeper) in
     let size = bytes-read file (loop .p) (load-u64 .result) (load-u64 .ensures) in
     let place = place-read file (loop .p) (load-u642 .result) (load-u642 .ensures) in
     let some : 0 < field file (loop .p) childrenBytes = omega (arith, if3 .left, size) in (
       listed .kept .1 .1 .1 .1 .0 ∙ loop .inv .0,
-      ap length (kept .ensures .0) ∙ length-set (loop .table) (field file (loop .p) ctxId) (loop .p) ∙ loop .inv .1,
+      ap length (stored .ensures .0) ∙ length-set (loop .table) (field file (loop .p) ctxId) (loop .p) ∙ loop .inv .1,
       listed .kept .1 .1 .1 .1 .1 .0 ∙ loop .inv .2,
       omega (arith, place, sound .children some .0),
-      ap length (kept .ensures .1) ∙ length-set (set (loop .way) 0 (loop .up + 1)) (loop .up + 1) (loop .p)
+      ap length (stored .ensures .1) ∙ length-set (set (loop .way) 0 (loop .up + 1)) (loop .up + 1) (loop .p)
           ∙ length-set (loop .way) 0 (loop .up + 1) ∙ loop .inv .4,
-      λ m b. rw (listed .ensures .0, listed .ensures .1 .0, kept .ensures .0, kept .ensures .1) (flat-down file t path was (args .at) (args .stop) m b s (loop .way) (loop .up) (loop .p) (loop .end) (loop .k) (loop .seek) (loop .inv .5 m b) open-ended goes (step .result) (step .ensures) (eqb (step .result .matched) (depth .result)) (ap (eqb (step .result .matched)) (depth .ensures)) (listed .last .1 .1 .1 .1 .1 .0) (listed .ensures .1 .1) (loop .inv .3) room (sound .lies) (load-u642 .result) (load-u64 .result) place size),
+      λ m b. rw (listed .ensures .0, listed .ensures .1 .0, stored .ensures .0, stored .ensures .1) (flat-down file t path was (args .at) (args .stop) m b s (loop .way) (loop .up) (loop .p) (loop .end) (loop .k) (loop .seek) (loop .inv .5 m b) open-ended goes (step .result) (step .ensures) (eqb (step .result .matched) (depth .result)) (ap (eqb (step .result .matched)) (depth .ensures)) (listed .last .1 .1 .1 .1 .1 .0) (listed .ensures .1 .1) (loop .inv .3) room (sound .lies) (load-u642 .result) (load-u64 .result) place size),
     )
 
 pub contexts-spec : {M : Type 1} → statement M
@@ -492,13 +492,13 @@ contexts-spec =
     loop-less
     loop-again
     add-depth
-    judge-requires
+    visit-answer-requires
     (λ c. search needs)
     same-length-4
     same-length-5
     same-length-6
     returns-2
-    keep-requires
+    store-visit-requires
     step-until-passed-requires
     list-requires
     load-u64-requires

@@ -56,14 +56,8 @@ element-copy-out-p c = omega (arith, turn-shallow c)
 number-of-requires : tie.Need-number-of-requires Inv-loop μ-loop
 number-of-requires c κs = turn-lies (c .before)
 
-mul-store-u32 : tie.Need-mul-store-u32 Inv-loop μ-loop
-mul-store-u32 c = omega (arith, turn-shallow (c .before .before .before))
-
-add-store-u32 : tie.Need-add-store-u32 Inv-loop μ-loop
-add-store-u32 c = omega (arith, turn-shallow (c .before .before .before))
-
-store-u32-requires : tie.Need-store-u32-requires Inv-loop μ-loop
-store-u32-requires c κs =
+put-number-requires : tie.Need-put-number-requires Inv-loop μ-loop
+put-number-requires c κs =
     let pre = c .before .before .before .before .before .before .before .before .before .before .before .before .pre in
     let put-head = c .before .before .before .before .before .before .before .put-head in
     omega (arith, turn-shallow (c .before .before .before), c .before .before .before .before .loop .inv .long, put-head .kept .0, pre .1)
@@ -88,11 +82,11 @@ loop-again c =
     let loop = c .before .before .before .before .before .before .before .before .loop in
     let loop-test = c .before .before .before .before .before .before .before .loop-test in
     let number-of = c .before .before .before .before .before .number-of in
-    let store-u32 = c .before .before .before .store-u32 in
+    let put-number = c .before .before .before .put-number in
     let load-u64 = c .load-u64 in
     let next = place-read (now (args .file)) (getD (now (args .way)) (loop .d + 1) 0) (load-u64 .result) (load-u64 .ensures) in
-    marked-more (now (args .file)) (args .start) (now (args .way)) (loop .inv) (number-of .result) (store-u32 .last .0) (load-u64 .result)
-    (loop-test .taken) (number-of .ensures) (store-u32 .ensures) next
+    marked-more (now (args .file)) (args .start) (now (args .way)) (loop .inv) (number-of .result) (put-number .last .0) (load-u64 .result)
+    (loop-test .taken) (number-of .ensures) (put-number .ensures) next
 
 same-length : tie.Need-same-length Inv-loop μ-loop
 same-length c = c .before .loop .inv .long ∙ c .before .before .before .before .put-head .kept .0
@@ -107,5 +101,5 @@ returns c =
 pub put-mark-spec : {M : Type 1} → statement M
 put-mark-spec =
     tie.close
-    (tie.spec Inv-loop μ-loop (λ c. search needs) put-head-requires loop-holds add-p mul-p element-copy-out-p number-of-requires mul-store-u32
-    add-store-u32 (λ c. search needs) store-u32-requires add-load-u64 load-u64-requires add-d loop-less loop-again same-length returns)
+    (tie.spec Inv-loop μ-loop (λ c. search needs) put-head-requires loop-holds add-p mul-p element-copy-out-p number-of-requires
+    (λ c. search needs) put-number-requires add-load-u64 load-u64-requires add-d loop-less loop-again same-length returns)

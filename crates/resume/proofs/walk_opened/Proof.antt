@@ -17,14 +17,14 @@ returns : tie.Need-returns
 returns c =
     let args = c .before .before .before .before .before .before .before .before .before .before .before .before .before .before .before .before .before .before .before .before .before .before .before .before .args in
     let walk-in = c .before .before .before .before .before .before .before .before .before .before .before .before .before .walk-in in
-    let settle = c .settle in
+    let answer-of = c .answer-of in
     let pre = c .before .before .before .before .before .before .before .before .before .before .before .before .before .before .before .before .before .before .before .before .before .before .before .before .pre in
     let marks-in = c .before .before .before .before .before .before .marks-in in
     let if1 = c .before .before .before .before .before .if1 in
     let clear = c .before .before .before .clear in
     let was = slicesWithMark (now (args .listing)) (now (args .table)) (now (args .records)) (now (args .new-mark)) in
     let s = slices (walk-in .last .1 .1 .1 .0) (walk-in .last .1 .1 .1 .1 .0) (walk-in .last .1 .1 .1 .1 .1 .0) in
-    rw (settle .ensures)
+    rw (answer-of .ensures)
     (leaves-none (now (args .file)) (now (args .mark)) (args .asks) was (pre .0) (pre .1 .0) (pre .1 .1) (walk-in .result) s
     (walk-in .last .1 .1 .1 .1 .1 .1 .0) (walk-in .ensures) (sym (marks-in .ensures) ∙ if1 .taken) (clear .last .0) (clear .ensures))
 
@@ -55,7 +55,7 @@ unfolding field
 returns-2 c =
     let args = c .before .before .before .before .before .before .before .before .before .before .before .before .before .before .before .before .before .before .before .before .before .before .before .before .before .before .before .before .args in
     let walk-in = c .before .before .before .before .before .before .before .before .before .before .before .before .before .before .before .before .before .walk-in in
-    let settle2 = c .settle2 in
+    let answer-of2 = c .answer-of2 in
     let pre = c .before .before .before .before .before .before .before .before .before .before .before .before .before .before .before .before .before .before .before .before .before .before .before .before .before .before .before .before .pre in
     let if1 = c .before .before .before .before .before .before .before .before .before .if1 in
     let marks-in = c .before .before .before .before .before .before .before .before .before .before .marks-in in
@@ -65,7 +65,7 @@ returns-2 c =
     let u64-at = c .before .before .before .before .before .before .u64-at in
     let was = slicesWithMark (now (args .listing)) (now (args .table)) (now (args .records)) (now (args .new-mark)) in
     let s = slices (walk-in .last .1 .1 .1 .0) (walk-in .last .1 .1 .1 .1 .0) (walk-in .last .1 .1 .1 .1 .1 .0) in
-    rw (settle2 .ensures)
+    rw (answer-of2 .ensures)
     (leaves-asked (now (args .file)) (now (args .mark)) (args .asks) was (pre .0) (pre .1 .0) (pre .1 .1) (walk-in .result) s
     (walk-in .last .1 .1 .1 .1 .1 .1 .0) (walk-in .ensures) (λ z. if1 .left (marks-in .ensures ∙ z)) (λ k. shared-slice-known .given k .fits)
     (put-mark .last .1 .1 .1 .0) (if2 .taken) (rw (u64-at .ensures) at (put-mark .ensures)))
@@ -74,14 +74,14 @@ returns-3 : tie.Need-returns-3
 returns-3 c =
     let args = c .before .before .before .before .before .before .before .before .before .before .before .before .before .before .before .before .before .before .before .before .before .args in
     let walk-in = c .before .before .before .before .before .before .before .before .before .before .walk-in in
-    let settle3 = c .settle3 in
+    let answer-of3 = c .answer-of3 in
     let pre = c .before .before .before .before .before .before .before .before .before .before .before .before .before .before .before .before .before .before .before .before .before .pre in
     let if1 = c .before .before .if1 in
     let marks-in = c .before .before .before .marks-in in
     let if2 = c .before .if2 in
     let was = slicesWithMark (now (args .listing)) (now (args .table)) (now (args .records)) (now (args .new-mark)) in
     let s = slices (walk-in .last .1 .1 .1 .0) (walk-in .last .1 .1 .1 .1 .0) (walk-in .last .1 .1 .1 .1 .1 .0) in
-    rw (settle3 .ensures) (leaves-unasked (now (args .file)) (now (args .mark)) (args .asks) was (pre .0) (pre .1 .0) (pre .1 .1) (walk-in .result) s
+    rw (answer-of3 .ensures) (leaves-unasked (now (args .file)) (now (args .mark)) (args .asks) was (pre .0) (pre .1 .0) (pre .1 .1) (walk-in .result) s
     (walk-in .last .1 .1 .1 .1 .1 .1 .0) (walk-in .ensures) (λ z. if1 .left (marks-in .ensures ∙ z)) (if2 .left))
 
 pub walk-opened-spec : {M : Type 1} → statement M

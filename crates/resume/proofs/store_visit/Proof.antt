@@ -4,8 +4,8 @@ use native.Mathlib.Omega.{arith}
 use borrow.Author.Needs.{needs}
 use denote.Ref.{now}
 use Rattle.visit.proofs.Checks.{id-read}
-use Rattle.resume.proofs.keep.Statement.{statement}
-use Rattle.resume.proofs.keep.Tie as tie
+use Rattle.resume.proofs.store_visit.Statement.{statement}
+use Rattle.resume.proofs.store_visit.Tie as tie
 
 slice-write-table : tie.Need-slice-write-table
 slice-write-table c =
@@ -17,8 +17,8 @@ returns c =
     let id = id-read (now (c .before .before .before .args .file)) (c .before .before .before .args .p) (c .load-u32 .result) (c .load-u32 .ensures) in
     (rw id, refl)
 
-pub keep-spec : {M : Type 1} → statement M
-keep-spec =
+pub store-visit-spec : {M : Type 1} → statement M
+store-visit-spec =
     tie.close
     (tie.spec (λ c. search needs) (λ c κs. search needs) (λ c. search needs) (λ c. search needs) slice-write-table (λ c. search needs)
     (λ c. search needs) (λ c. search needs) (λ c. search needs) returns)

@@ -6,12 +6,12 @@ use borrow.Author.Needs.{needs}
 use denote.Ref.{now}
 use Rattle.refusal.specs.Check.{either, rule, first, ifPassed}
 use Rattle.context.proofs.Laws.{readable}
-use Rattle.resume.specs.State.{verdict}
-use Rattle.resume.proofs.judge.Statement.{statement}
-use Rattle.resume.proofs.judge.Tie as tie
+use Rattle.resume.specs.State.{visitAnswer}
+use Rattle.resume.proofs.visit_answer.Statement.{statement}
+use Rattle.resume.proofs.visit_answer.Tie as tie
 
 returns : tie.Need-returns
-unfolding verdict rule first ifPassed
+unfolding visitAnswer rule first ifPassed
 returns c = rw (sym (c .before .context-rule .ensures) ∙ not-true _ (c .if1 .taken))
 
 visit-check-requires : tie.Need-visit-check-requires
@@ -21,14 +21,14 @@ visit-check-requires c κs =
     readable (now (args .file)) (args .p) (args .stop) (sym (c .before .context-rule .ensures) ∙ not-false _ (c .if1 .left)) (pre .1)
 
 returns-2 : tie.Need-returns-2
-unfolding verdict rule first ifPassed
+unfolding visitAnswer rule first ifPassed
 returns-2 c =
     let context-rule = c .before .before .before .before .before .context-rule in
     let visit-check = c .before .before .before .visit-check in
     rw (sym (context-rule .ensures) ∙ not-false _ (c .before .before .before .before .if1 .left), sym (visit-check .ensures) ∙ c .before .check .given .1)
 
 returns-3 : tie.Need-returns-3
-unfolding verdict rule first ifPassed either
+unfolding visitAnswer rule first ifPassed either
 returns-3 c =
     let args = c .before .before .before .before .before .before .before .before .args in
     let context-rule = c .before .before .before .before .before .context-rule in
@@ -40,7 +40,7 @@ returns-3 c =
     )
 
 returns-4 : tie.Need-returns-4
-unfolding verdict rule first ifPassed either
+unfolding visitAnswer rule first ifPassed either
 returns-4 c =
     let args = c .before .before .before .before .before .before .before .before .args in
     let context-rule = c .before .before .before .before .before .context-rule in
@@ -51,7 +51,7 @@ returns-4 c =
       le-leb (args .k) (args .words) (omega (arith, c .if2 .left)),
     )
 
-pub judge-spec : {M : Type 1} → statement M
-judge-spec =
+pub visit-answer-spec : {M : Type 1} → statement M
+visit-answer-spec =
     tie.close
     (tie.spec (λ c κs. search needs) returns visit-check-requires (λ c. search needs) returns-2 (λ c. search needs) returns-3 returns-4)
