@@ -180,12 +180,14 @@ static void expect_no_mark(const char *what, uint32_t code, uint32_t want, size_
 static void no_new_marks(void)
 {
     static const uint8_t malformed[13] = {12, 0, 1, 0, 2};
+    static const uint8_t rolled_over[65536 + 13] = {13, 0, 1, 0, 2};
     uint8_t buffer[HPCDB_MARK_ROOM] = {13, 0, 1, 0, 2};
     expect_no_mark("no such context", go_on(mark_of_none, 13, 4, 5, HPCDB_MARK_ROOM), HPCDB_MARK, 5);
     expect_no_mark("no slot for B, and no such context", go_on(mark_of_none, 13, 4, 4, HPCDB_MARK_ROOM), HPCDB_SLOT, 4);
     expect_no_mark("no slot for B, which is named", go_on(mark_of_b, 9, 4, 4, HPCDB_MARK_ROOM), HPCDB_SLOT, 4);
     expect_no_mark("a length of 12", go_on(malformed, 13, 4, 5, HPCDB_MARK_ROOM), HPCDB_MARK, 0);
     expect_no_mark("the whole buffer", go_on(buffer, sizeof buffer, 4, 5, HPCDB_MARK_ROOM), HPCDB_MARK, 0);
+    expect_no_mark("bytes whose number is 13 in 16 bits", go_on(rolled_over, sizeof rolled_over, 4, 5, HPCDB_MARK_ROOM), HPCDB_MARK, 0);
     expect_no_mark("room of 804", go_on(mark_of_c, 13, 4, 5, HPCDB_MARK_ROOM - 1), HPCDB_ROOM, 0);
     file[0] = 'h';
     expect_no_mark("a magic before a mark", go_on(malformed, 13, 4, 5, HPCDB_MARK_ROOM), HPCDB_MAGIC, 0);

@@ -2,13 +2,11 @@
 -- it ends so, and in both that all of it is listed; 101 that it has more contexts than the listing has words; 17 and 18 by the mark rules
 -- alone; and always how many are listed.
 use Prim.Native.Nat.{ℕ, _≤_, _<_}
-use mathlib.Core.Bool.{Bool, true, false}
+use mathlib.Core.Bool.{true}
 use mathlib.Core.List.{List, [], _∷_}
 use mathlib.Core.Logic.{_↔_, Iff·trans}
 use mathlib.Core.Path.{_≡_, refl, sym, ap, _∙_}
 use native.Mathlib.Omega.{arith}
-use borrow.Author.Tests.{leb-true, leb-false}
-use lib.Dec.{leb}
 use lib.ListN.{length}
 use Rattle.refusal.specs.declared.Refusal.{Refusal}
 use Rattle.refusal.specs.declared.Refusal.the-variants as No
@@ -25,7 +23,7 @@ use Rattle.traversal.specs.Traversal.{Marks, Outcome, on, cut, refused}
 use Rattle.traversal.specs.Walk.{trailFrom, walkedOf, numberListed, walkedWords, Slices, LeavesFrom}
 use Rattle.traversal.specs.Demand3.{Call, callOf, asked, listedNumber, trail, OneWalk}
 use Rattle.traversal.specs.Joined.{Roomy, MarkFails}
-use Rattle.traversal.proofs.Demand3.{demand3}
+use Rattle.traversal.proofs.Demand3.{not-cut, demand3}
 use Rattle.traversal.proofs.Outcomes.{outcomes}
 
 -- ---- codes tell answers apart
@@ -56,21 +54,13 @@ both-words (Refused s n) = refl
 
 -- ---- of a call
 
--- a walk that is not cut gives the trail's end, and has room for all of it
 module _ {file : List ℕ} (c : Call file) (one : OneWalk c) where
   abbrev room : ℕ
   room = length (c .was .listing)
 
-  not-cut : ((n : ℕ) → c .answer ≡ Truncated n → ⊥) → (length (trail c) ≤ room) × (c .answer ≡ walkedOf (trailFrom (asked c)))
-  not-cut f = go (leb (length (trail c)) room) refl
-    where
-      go : (b : Bool) → leb (length (trail c)) room ≡ b → (length (trail c) ≤ room) × (c .answer ≡ walkedOf (trailFrom (asked c)))
-      go true e = let h = leb-true (length (trail c)) room e in (h, one .gives-end h)
-      go false e = absurd (f (listedNumber c) (one .says-cut .1 (omega (arith, leb-false (length (trail c)) room e))))
-
   whole-end : (c .answer ≡ Complete (listedNumber c)) ↔ ((l : List Entry) × (trailFrom (asked c) ≡ on l) × (length l ≤ room))
   unfolding walkedOf
-  whole-end = (λ e. go e (trailFrom (asked c)) refl (not-cut (λ n q. let z : _≡_ {A = ℕ} 0 1 = cc in omega arith)), back)
+  whole-end = (λ e. go e (trailFrom (asked c)) refl (not-cut c (λ n q. let z : _≡_ {A = ℕ} 0 1 = cc in omega arith)), back)
     where
       back : (l : List Entry) × (trailFrom (asked c) ≡ on l) × (length l ≤ room) → c .answer ≡ Complete (listedNumber c)
       back (l, e, h) =
@@ -86,7 +76,7 @@ module _ {file : List ℕ} (c : Call file) (one : OneWalk c) where
 
   refused-end : (r : Refusal) → ((n : ℕ) × (c .answer ≡ Refused r n)) ↔ ((l : List Entry) × (trailFrom (asked c) ≡ refused r l) × (length l ≤ room))
   unfolding walkedOf
-  refused-end r = (λ x. go (x .0) (x .1) (trailFrom (asked c)) refl (not-cut (λ n q. let e = x .1 in let z : _≡_ {A = ℕ} 0 1 = cc in omega arith)), back)
+  refused-end r = (λ x. go (x .0) (x .1) (trailFrom (asked c)) refl (not-cut c (λ n q. let e = x .1 in let z : _≡_ {A = ℕ} 0 1 = cc in omega arith)), back)
     where
       back : (l : List Entry) × (trailFrom (asked c) ≡ refused r l) × (length l ≤ room) → (n : ℕ) × (c .answer ≡ Refused r n)
       back (l, e, h) = (length l, one .gives-end (rw e h) ∙ ap walkedOf e)

@@ -46,23 +46,23 @@ fn show(walked: Walked) {
     newline();
 }
 
-fn words(name: &[u8], lent: &[u64]) {
+fn words(name: &[u8], values: &[u64]) {
     io::write_all(STDOUT_FILENO, name);
     let mut i = 0;
-    while i < lent.len() {
-        spaced(lent[i]);
+    while i < values.len() {
+        spaced(values[i]);
         i += 1;
     }
     newline();
 }
 
 // How many bytes there are up to the last that is not as it was.
-fn changed(lent: &[u8]) -> usize
-    ensures { λ r. ⌜ r ≤ length (now (lent .entry)) ⌝ }
+fn changed(bytes: &[u8]) -> usize
+    ensures { λ r. ⌜ r ≤ length (now (bytes .entry)) ⌝ }
 {
-    let mut n = lent.len();
+    let mut n = bytes.len();
     while 0 < n {
-        if lent[n - 1] != BYTE_BEFORE {
+        if bytes[n - 1] != BYTE_BEFORE {
             return n;
         }
         n -= 1;
@@ -75,12 +75,12 @@ fn digits(byte: u8) {
     io::print_hex(STDOUT_FILENO, byte as u64, 2);
 }
 
-fn mark_bytes(lent: &[u8]) {
+fn mark_bytes(bytes: &[u8]) {
     io::write_all(STDOUT_FILENO, b"mark ");
-    let n = changed(lent);
+    let n = changed(bytes);
     let mut i = 0;
     while i < n {
-        digits(lent[i]);
+        digits(bytes[i]);
         i += 1;
     }
     newline();

@@ -59,12 +59,12 @@ ups-length (x ∷ frames) = omega (arith, length-append (upsOf frames) (x .numbe
 
 -- ---- words
 
-pub stands-set : (way : List ℕ) (j v : ℕ) (frames : List Frame) → (j ≡ 0 → ⊥) → length frames < j → WayStands way frames → WayStands (set way j v) frames
+stands-set : (way : List ℕ) (j v : ℕ) (frames : List Frame) → (j ≡ 0 → ⊥) → length frames < j → WayStands way frames → WayStands (set way j v) frames
 stands-set way j v [] z h s = tt
 stands-set way j v (x ∷ frames) z h s =
     (getD-set-other way j (suc (length frames)) v 0 (λ e. omega arith) ∙ s .0, stands-set way j v frames z (omega arith) (s .1))
 
-pub stands-first : (way : List ℕ) (v : ℕ) (frames : List Frame) → WayStands way frames → WayStands (set way 0 v) frames
+stands-first : (way : List ℕ) (v : ℕ) (frames : List Frame) → WayStands way frames → WayStands (set way 0 v) frames
 stands-first way v [] s = tt
 stands-first way v (x ∷ frames) s = (getD-set-other way 0 (suc (length frames)) v 0 (λ e. omega arith) ∙ s .0, stands-first way v frames (s .1))
 

@@ -1,7 +1,7 @@
 -- What a walk from a mark leaves, by what was visited: where the mark was passed, the contexts after it, their slots with those before
 -- them, and the mark of the last; where it was not, an empty table and 18 or the refusal that came first.
 use Prim.Native.Nat.{ℕ, zero, suc, _<_}
-use mathlib.Core.Bool.{Bool, true, false, _&&_, _||_, not, and-true, true≢false}
+use mathlib.Core.Bool.{Bool, true, false, _&&_, _||_, not, and-true, and-false, true≢false}
 use mathlib.Core.List.{List, []}
 use mathlib.Core.Path.{_≡_, refl, sym, ap, _∙_}
 use native.Mathlib.Omega.{arith}
@@ -26,27 +26,18 @@ use Rattle.traversal.specs.declared.Walked.{Walked}
 use Rattle.traversal.specs.declared.Walked.the-variants.{Refused}
 use Rattle.traversal.specs.Traversal.{Marks, Asked, Outcome, on, cut, refused, listOf, fromRoots}
 use Rattle.traversal.specs.From.{isPassed, afterMark, withList, unpassed, fromMark, lastPath, marksFrom, limitedFrom}
-use Rattle.traversal.specs.Walk.{walkCheck, trailFrom, walkOf, markPassed, newPath, reached, walkedOf, listingWith, slotsWith, tableWith, recordsWith, tableAfter, markAfter, Slices, slices, slicesWithMark, askWith, marksWith, LeavesFrom, itself}
-use Rattle.traversal.proofs.Cut.{truncate-short}
-use Rattle.traversal.proofs.From.{list-with, list-unpassed, from-passed, from-unpassed}
-use Rattle.traversal.proofs.Passing.{marks-passed, marks-unpassed, after-length, unpassed-after}
+use Rattle.traversal.specs.Walk.{walkCheck, walkOf, newPath, reached, walkedOf, listingWith, slotsWith, tableWith, recordsWith, tableAfter, markAfter, Slices, slices, slicesWithMark, askWith, marksWith, LeavesFrom, itself}
+use Rattle.traversal.proofs.From.{from-passed, from-unpassed, list-from}
+use Rattle.traversal.proofs.Passing.{marks-passed, marks-unpassed, after-length}
 use Rattle.traversal.proofs.Places.{last-all}
 use Rattle.traversal.proofs.Small.{visited-encodable}
+use Rattle.traversal.proofs.Untouched.{not-begun}
 use Rattle.traversal.proofs.Visited.{VisitedBy, visited}
 use Rattle.resume.specs.Way.{Leads, MarkPut}
 use Rattle.resume.specs.State.{countedEnd, Ended, AllDone, marksIn, answerOf}
-use Rattle.resume.proofs.Slices.{wide, none-listed, none-recorded}
+use Rattle.resume.proofs.Slices.{wide}
 
 -- ---- the answer
-
--- the contexts from just after a mark, passed or not
-list-from : (path : List ℕ) (o : Outcome) → listOf (fromMark path o) ≡ afterMark path (listOf o)
-list-from path o = go (isPassed path (listOf o)) refl
-  where
-    go : (b : Bool) → isPassed path (listOf o) ≡ b → listOf (fromMark path o) ≡ afterMark path (listOf o)
-    go true e = ap listOf (from-passed path o e) ∙ list-with o (afterMark path (listOf o))
-    go false e =
-        ap listOf (from-unpassed path o e) ∙ list-unpassed o ∙ sym (unpassed-after path (listOf o) (marks-unpassed path (listOf o) .1 e))
 
 -- the end with the contexts after the mark counted
 answer-passed : (path : List ℕ) (o : Outcome) (n : ℕ) → marksFrom path (listOf o) ≡ suc n → length (afterMark path (listOf o)) ≡ n
@@ -100,37 +91,24 @@ module _ (file : List ℕ) (m : Marks) (was : Slices) where
   unfolding walkCheck rule first
   room-passed h = rw h
 
-  abbrev a : Asked
-  a = askWith file m was
-
-  pub not-begun : (r : Refusal) → walkCheck a ≡ Check.Refused r → LeavesFrom itself file m was (Refused r 0) was
-  unfolding walkOf trailFrom tableAfter markAfter markPassed ifPassed walkedOf either
-  not-begun r e =
-      let none : walkOf a ≡ refused r [] = rw e (truncate-short (length (was .listing)) (refused r []) (omega arith)) in
-      record {
-        answers = rw none;
-        lists = rw none (sym (none-listed (was .listing) [] refl));
-        fills = rw e;
-        recorded = rw none (sym (none-recorded (was .records) [] refl));
-        marked = rw e (unasked (m .asks));
-      }
-    where
-      unasked : (b : Bool) → was .mark ≡ either (b && false) (over (was .mark) 0 (encode (newPath a))) (was .mark)
-      unasked true = refl
-      unasked false = refl
-
   pub no-room : m .asks && ltb (length (was .mark)) markRoom ≡ true → LeavesFrom itself file m was (Refused No.Room 0) was
-  no-room h = not-begun No.Room (room-refused (room-broken (m .asks) (length (was .mark)) h))
+  no-room h = not-begun file m was No.Room (room-refused (room-broken (m .asks) (length (was .mark)) h))
 
   pub refused-by : (r : Refusal) → m .asks && ltb (length (was .mark)) markRoom ≡ false
       → first (opening meta file) (rule (isNamed (decode (m .given))) No.Mark) ≡ Check.Refused r → LeavesFrom itself file m was (Refused r 0) was
-  refused-by r h e = not-begun r (room-passed (room-kept (m .asks) (length (was .mark)) h) ∙ e)
+  refused-by r h e = not-begun file m was r (room-passed (room-kept (m .asks) (length (was .mark)) h) ∙ e)
 
 -- ---- by what was visited
 
-module _ (file mark : List ℕ) (asks : Bool) (was : Slices) {ps : List (List ℕ)} (o : Sections meta file ps) (named : isNamed (decode mark) ≡ true)
-    (roomy : not asks || leb markRoom (length (was .mark)) ≡ true) (w : Walked) (s : Slices) (way : List ℕ)
-    (d : AllDone file ps (pathIn (decode mark)) (slices (was .listing) (was .table) (was .records)) w s way) where
+-- a walk of an opened file from a well-formed mark, with room for a new one where it is asked for
+pub record Walks (file mark : List ℕ) (asks : Bool) (was : Slices) (ps : List (List ℕ)) (w : Walked) (s : Slices) (way : List ℕ) : Type 0 where
+  pub opened : Sections meta file ps
+  pub well : isNamed (decode mark) ≡ true
+  pub roomy : not asks || leb markRoom (length (was .mark)) ≡ true
+  pub done : AllDone file ps (pathIn (decode mark)) (slices (was .listing) (was .table) (was .records)) w s way
+
+module _ {file mark : List ℕ} {asks : Bool} {was : Slices} {ps : List (List ℕ)} {w : Walked} {s : Slices} {way : List ℕ}
+    (v : Walks file mark asks was ps w s way) where
   abbrev q : Asked
   q = askWith file (marksWith mark asks) was
 
@@ -144,11 +122,11 @@ module _ (file mark : List ℕ) (asks : Bool) (was : Slices) {ps : List (List �
   place = field file (placeIn ps Section.context) (u64 8)
 
   ended : Ended file place path (slices (was .listing) (was .table) (was .records)) seen w s way
-  ended = rw (← o .same) (d (marksWith mark asks) (length (was .mark)))
+  ended = rw (← v .opened .same) (v .done (marksWith mark asks) (length (was .mark)))
 
   checked : walkCheck q ≡ Check.Passed
   unfolding walkCheck rule first
-  checked = rw (roomy, o .passed, named)
+  checked = rw (v .roomy, v .opened .passed, v .well)
 
   by : VisitedBy q seen
   by = visited q checked
@@ -183,12 +161,8 @@ module _ (file mark : List ℕ) (asks : Bool) (was : Slices) {ps : List (List �
         lists = listed-is;
         fills = e ∙ rw (wide (ended .holds)) (sym (table-is ∙ ap (λ (l : List Entry). tableWith l (length (was .table))) (by .empty not-passed)));
         recorded = recorded-is;
-        marked = rw (by .passing, not-passed) (unasked asks);
+        marked = rw (by .passing, not-passed, and-false asks);
       }
-    where
-      unasked : (b : Bool) → was .mark ≡ either (b && false) (over (was .mark) 0 (encode (newPath q))) (was .mark)
-      unasked true = refl
-      unasked false = refl
 
   -- it is
   module _ (z : marksIn w ≡ 0 → ⊥) where

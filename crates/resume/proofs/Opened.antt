@@ -1,9 +1,9 @@
 -- The walk of an opened file: from its roots, where there are any. The table is cleared first, and only its length counts.
-use Prim.Native.Nat.{ℕ, suc, _+_}
+use Prim.Native.Nat.{ℕ, suc, _+_, _≤_, _<_}
 use mathlib.Core.List.{List, []}
 use mathlib.Core.Path.{_≡_, refl, sym, ap, _∙_}
 use native.Mathlib.Omega.{arith}
-use native.Mathlib.Nat.{not-suc-le-zero}
+use native.Mathlib.Nat.{not-suc-le-zero, add-zero}
 use lib.Dec.{eqb}
 use lib.ListN.{length, replicate, length-replicate}
 use Rattle.le.specs.Number.{number}
@@ -20,6 +20,7 @@ use Rattle.traversal.specs.From.{lastPath, limitedFrom}
 use Rattle.traversal.specs.Walk.{tableWith, Slices, slices}
 use Rattle.traversal.proofs.Steps.{rest-end, level-rest}
 use Rattle.resume.specs.State.{Holds, countedEnd, Ended, askedWith, RootsDone, AllDone}
+use Rattle.visit.proofs.Lie.{roots-lie}
 use Rattle.resume.proofs.Slices.{start}
 
 -- with a table as long, whatever it held
@@ -61,26 +62,39 @@ empty-roots file t path was place bytes table e m n k way z h ew =
       last = record { depth = rw ew; stands = λ k q. absurd (not-suc-le-zero q); lie = λ k q. absurd (not-suc-le-zero q) };
     })
 
-module _ (file : List ℕ) (path : List ℕ) (was : Slices) {ps : List (List ℕ)} (o : Sections meta file ps) (t : Targets) (et : t ≡ targetsOf file ps)
-    (place bytes : ℕ) (ep : place ≡ number 8 file (placeIn ps Section.context + 8)) (eb : bytes ≡ number 8 file (placeIn ps Section.context + 0))
-    (table : List ℕ) (ec : table ≡ replicate (length (was .table)) 0) where
+-- what is read of an opened file's roots, and the table cleared
+pub record Roots (file : List ℕ) (was : Slices) (ps : List (List ℕ)) (t : Targets) (place bytes : ℕ) (table : List ℕ) : Type 0 where
+  pub opened : Sections meta file ps
+  pub leads-to : t ≡ targetsOf file ps
+  pub stand-at : place ≡ number 8 file (placeIn ps Section.context + 8)
+  pub take : bytes ≡ number 8 file (placeIn ps Section.context)
+  pub clear : table ≡ replicate (length (was .table)) 0
+
+module _ {file : List ℕ} {was : Slices} {ps : List (List ℕ)} {t : Targets} {place bytes : ℕ} {table : List ℕ}
+    (z : Roots file was ps t place bytes table) where
+  take-0 : bytes ≡ number 8 file (placeIn ps Section.context + 0)
+  take-0 = rw (add-zero (placeIn ps Section.context)) (z .take)
+
+  pub roots-inside : (bytes ≡ 0 → ⊥) → (0 < place) × (place + bytes ≤ length file) × (t .at + t .size ≤ length file)
+  roots-inside n = roots-lie file (z .opened) t (z .leads-to) place bytes (z .stand-at) take-0 (omega (arith, n))
+
   abbrev cleared : Slices
   cleared = slices (was .listing) table (was .records)
 
   long : length table ≡ length (was .table)
-  long = ap length ec ∙ length-replicate (length (was .table)) 0
+  long = ap length (z .clear) ∙ length-replicate (length (was .table)) 0
 
-  pub from-roots : (r : Walked) (s : Slices) (way : List ℕ) → RootsDone file t path place (place + bytes) cleared r s way → AllDone file ps path was r s way
+  -- its own length says as much
+  pub clear-again : table ≡ replicate (length table) 0
+  clear-again = z .clear ∙ ap (λ (k : ℕ). replicate k 0) (sym long)
+
+  pub from-roots : (path : List ℕ) (r : Walked) (s : Slices) (way : List ℕ) → RootsDone file t path place (place + bytes) cleared r s way
+      → AllDone file ps path was r s way
   unfolding fromRoots field targetsOf
-  from-roots r s way d m n = rw (← ep, ← eb, ← et) (as-long file t path was place (place + bytes) r s way table long d m n)
+  from-roots path r s way d m n =
+      rw (← z .stand-at, ← take-0, ← z .leads-to) (as-long file t path was place (place + bytes) r s way table long d m n)
 
-  pub no-roots : (k : ℕ) (way : List ℕ) → bytes ≡ 0 → k ≡ either (eqb (length path) 0) 1 0 → way ≡ replicate 201 0
+  pub no-roots : (path : List ℕ) (k : ℕ) (way : List ℕ) → bytes ≡ 0 → k ≡ either (eqb (length path) 0) 1 0 → way ≡ replicate 201 0
       → AllDone file ps path was (Complete k) cleared way
-  no-roots k way z ek ew = from-roots (Complete k) cleared way (λ m n. nothing m n)
-    where
-      h : Holds path was [] cleared k
-      h = rw ek (start path was table ec)
-
-      nothing : (m : Marks) (n : ℕ) → Ended file place path cleared (level (limitedFrom path (askedWith file cleared m n) t) (suc depthLimit) 0 [] place (place + bytes) [])
-          (Complete k) cleared way
-      nothing m n = empty-roots file t path was place bytes table long m n k way z h ew
+  no-roots path k way none ek ew =
+      from-roots path (Complete k) cleared way (λ m n. empty-roots file t path was place bytes table long m n k way none (rw ek (start path was table (z .clear))) ew)

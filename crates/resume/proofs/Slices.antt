@@ -5,20 +5,22 @@ use mathlib.Core.List.{List, [], _∷_, map}
 use mathlib.Core.Path.{_≡_, refl, sym, ap, _∙_}
 use native.Mathlib.Omega.{arith}
 use lib.Dec.{eqb, ltb, eqb·suc-zero}
-use lib.ListN.{length, set, take, drop, replicate}
+use lib.ListN.{length, set, replicate}
+use lib.Seq.{drop-nil}
 use Rattle.refusal.specs.Check.{either}
 use Rattle.buffer.specs.Over.{over}
-use Rattle.buffer.proofs.Laws.{over-none, length-over}
+use Rattle.buffer.proofs.Laws.{length-over}
 use Rattle.open.specs.Opening.{field}
 use Rattle.context.specs.Context.{ctxId}
 use Rattle.context.specs.Entry.{Entry, entryAt, entryWords, wordsEach}
 use Rattle.traversal.specs.From.{samePath, skipped, afterMark, marksFrom}
-use Rattle.traversal.specs.Walk.{placeOf, listingWith, slotsWith, tableWith, wordsOf, recordsWith, Slices, slices}
+use Rattle.traversal.specs.Walk.{placeOf, listingWith, slotsWith, tableWith, Slices, slices}
 use Rattle.traversal.proofs.Keeps.{snoc}
 use Rattle.traversal.proofs.Passing.{marks-start, marks-more, after-more, after-length, marks-found, marks-still, after-none, unpassed-after}
 use Rattle.traversal.proofs.Table.{slots-append, length-table}
+use Rattle.traversal.proofs.Untouched.{none-listed, none-recorded, length-records}
 use Rattle.visit.proofs.Slices.{placed-snoc, listing-snoc, records-snoc}
-use Rattle.resume.specs.State.{Holds, marksMore, listingMore, RecordMore}
+use Rattle.resume.specs.State.{Holds, listingMore, RecordMore}
 
 module _ {path : List ℕ} {was : Slices} {l : List Entry} {s : Slices} {k : ℕ} (h : Holds path was l s k) where
   pub long : length (s .listing) ≡ length (was .listing)
@@ -28,31 +30,18 @@ module _ {path : List ℕ} {was : Slices} {l : List Entry} {s : Slices} {k : ℕ
   pub wide : length (s .table) ≡ length (was .table)
   wide = ap length (h .filled) ∙ length-table l (length (was .table))
 
+  pub as-many : length (s .records) ≡ length (was .records)
+  as-many = rw (h .recorded) (length-records (was .records) (afterMark path l))
+
   -- the marks that are counted are those of the list
   pub recounted : Holds path was l s (marksFrom path l)
   recounted = record { listed = h .listed; filled = h .filled; recorded = h .recorded; counted = refl; placed = h .placed }
-
-pub none-listed : (was : List ℕ) (l : List Entry) → l ≡ [] → listingWith l was ≡ was
-unfolding listingWith
-none-listed was l e = rw e (over-none was 0)
-
-pub none-recorded : (was : List ℕ) (l : List Entry) → l ≡ [] → recordsWith l was ≡ was
-unfolding recordsWith wordsOf
-none-recorded was l e = rw e (go (length was / wordsEach))
-  where
-    go : (n : ℕ) → over was 0 (wordsOf (take n [])) ≡ was
-    go zero = over-none was 0
-    go (suc n) = over-none was 0
 
 -- where a walk starts
 module _ (path : List ℕ) (was : Slices) where
   start-after : afterMark path [] ≡ []
   unfolding afterMark
-  start-after = go (skipped path [])
-    where
-      go : (n : ℕ) → drop {A = Entry} n [] ≡ []
-      go zero = refl
-      go (suc n) = refl
+  start-after = drop-nil (skipped path [])
 
   root-mark : (q : List ℕ) → samePath q [] ≡ eqb (length q) 0
   unfolding samePath
@@ -69,6 +58,11 @@ module _ (path : List ℕ) (was : Slices) where
     counted = sym (marks-start path ∙ ap (λ (b : Bool). either b 1 0) (root-mark path));
     placed = tt;
   }
+
+-- the marks passed, by whether it is the mark's
+unfoldable pub marksMore : (k : ℕ) (found : Bool) → ℕ
+marksMore zero found = either found 1 0
+marksMore (suc n) found = suc (suc n)
 
 -- its record, by whether the mark is passed
 abbrev RecordBy : Entry → (k : ℕ) → (was now : List ℕ) → Type 0

@@ -1,10 +1,9 @@
 -- What holds of the lent slices at each point of a walk from a mark: for the contracts of its functions. The promise of the entry point
 -- cites the traversal's definitions alone.
-use Prim.Native.Nat.{ℕ, zero, suc}
-use mathlib.Core.Bool.{Bool}
+use Prim.Native.Nat.{ℕ, zero, suc, _+_}
 use mathlib.Core.List.{List, []}
 use mathlib.Core.Path.{_≡_}
-use lib.Dec.{leb}
+use lib.Dec.{eqb, leb}
 use lib.ListN.{length, set}
 use Rattle.refusal.specs.declared.Refusal.the-variants as No
 use Rattle.refusal.specs.Check.{either, rule, first, ifPassed}
@@ -18,7 +17,11 @@ use Rattle.traversal.specs.declared.Walked.the-variants.{Complete, Truncated, R
 use Rattle.traversal.specs.Traversal.{Marks, Asked, ask, Outcome, on, cut, refused, listOf, depthLimit, level, fromRoots}
 use Rattle.traversal.specs.From.{afterMark, lastPath, marksFrom, limitedFrom}
 use Rattle.traversal.specs.Walk.{listingWith, tableWith, recordsWith, Slices}
+use Rattle.seek.specs.declared.Seek.{Seek}
+use Rattle.seek.specs.Seek.{stepped}
 use Rattle.visit.specs.Visit.{Placed, checksAfter10, RecordPut}
+use Rattle.resume.specs.declared.Cursor.{Cursor}
+use Rattle.resume.specs.declared.Progress.{Progress}
 use Rattle.resume.specs.Way.{WayTo}
 
 -- the contexts of l are visited: those after the mark are listed, all have their slots, and k marks are passed from the mark on
@@ -57,16 +60,21 @@ AllDone file ps path was r s way =
     → Ended file (field file (placeIn ps Section.context) (u64 8)) path was (fromRoots (limitedFrom path (askedWith file was m bytes) (targetsOf file ps)))
     r s way
 
--- whether the walk goes on to list or pass the context at p, k marks having been passed
-unfoldable pub visitAnswer : List ℕ → Targets → (depth p stop : ℕ) (table : List ℕ) (words k : ℕ) → Walked
-visitAnswer file t depth p stop table words k =
-    ifPassed (λ r. Refused r k) (first (rule (contextRule file p stop) No.Context) (checksAfter10 file t depth p table))
+-- whether the walk goes on to list or pass the context there, k marks having been passed
+unfoldable pub visitAnswer : List ℕ → Targets → Cursor → (table : List ℕ) (words k : ℕ) → Walked
+visitAnswer file t here table words k =
+    ifPassed (λ r. Refused r k)
+    (first (rule (contextRule file (here .p) (here .end)) No.Context) (checksAfter10 file t (here .up + 1) (here .p) table))
     (either (leb k words) (Complete k) (Truncated k))
 
--- after one more context, by whether the mark is passed: the marks, the listing and the records
-unfoldable pub marksMore : (k : ℕ) (found : Bool) → ℕ
-marksMore zero found = either found 1 0
-marksMore (suc n) found = suc (suc n)
+abbrev pub progress : (marks : ℕ) → Seek → Progress
+progress marks sk = record { marks = marks; seek = sk }
+
+-- after one more context, below `up` others, by whether the mark is passed: the marks, and how far the given one is found; the listing; the
+-- records
+unfoldable pub progressMore : (path : List ℕ) (marks : ℕ) → Seek → (up : ℕ) → Progress
+progressMore path zero sk up = progress (either (eqb (stepped path sk up .matched) (length path)) 1 0) (stepped path sk up)
+progressMore path (suc k) sk up = progress (suc (suc k)) sk
 
 unfoldable pub listingMore : (k p : ℕ) (was : List ℕ) → List ℕ
 listingMore zero p was = was

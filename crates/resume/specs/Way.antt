@@ -2,11 +2,14 @@
 use Prim.Native.Nat.{ℕ, zero, suc, _+_, _≤_, _<_}
 use mathlib.Core.List.{List, [], _∷_}
 use mathlib.Core.Path.{_≡_}
+use lib.Dec.{eqb}
 use lib.ListN.{length, getD}
+use Rattle.refusal.specs.Check.{either}
 use Rattle.buffer.specs.Over.{over}
 use Rattle.mark.specs.Mark.{encode, Encodable}
 use Rattle.open.specs.Opening.{field}
 use Rattle.context.specs.Context.{childrenPlace, childrenBytes, extent}
+use Rattle.resume.specs.declared.Cursor.{Cursor}
 
 -- the place of sibling i of an array that starts at a place
 unfoldable pub siblingPlace : List ℕ → (start i : ℕ) → ℕ
@@ -57,6 +60,17 @@ abbrev pub LiesBelow : List ℕ → (way : List ℕ) (up : ℕ) → Type 0
 LiesBelow file way zero = Unit {0}
 LiesBelow file way (suc d) = Lies file (getD way (suc d) 0)
 
--- the place next to the context below `up` others of the way
-abbrev pub nextBelow : List ℕ → (way : List ℕ) (up : ℕ) → ℕ
-nextBelow file way up = getD way (suc up) 0 + extent file (getD way (suc up) 0)
+-- ---- a place of the walk
+
+abbrev pub cursor : (up p end : ℕ) → Cursor
+cursor up p end = record { up = up; p = p; end = end }
+
+-- behind the context on the way below `up` others, in its array
+unfoldable pub backTo : List ℕ → (stop : ℕ) (way : List ℕ) (up : ℕ) → Cursor
+backTo file stop way up = cursor up (getD way (suc up) 0 + extent file (getD way (suc up) 0)) (endBelow file stop way up)
+
+-- on from a context: behind it where it has no children, and else at the first of them
+unfoldable pub onFrom : List ℕ → Cursor → Cursor
+onFrom file here =
+    either (eqb (field file (here .p) childrenBytes) 0) (cursor (here .up) (here .p + extent file (here .p)) (here .end))
+    (cursor (suc (here .up)) (field file (here .p) childrenPlace) (childrenEnd file (here .p)))

@@ -14,10 +14,9 @@ ghost use Rattle.open.specs.Opening.{field};
 ghost use Rattle.context.specs.Context.{ctxId};
 ghost use Rattle.context.specs.Sound.{targetsIn, Readable};
 ghost use Rattle.mark.specs.Mark.{markRoom, decode, isNamed, pathIn};
-ghost use Rattle.seek.specs.Seek.{stepped};
 ghost use Rattle.traversal.specs.Walk.{slices, slicesWithMark, marksWith, LeavesFrom, Leaves, itself};
-ghost use Rattle.resume.specs.Way.{endBelow, nextBelow, LiesBelow, NumberOf, Leads, MarkPut};
-ghost use Rattle.resume.specs.State.{RootsDone, AllDone, visitAnswer, marksMore, listingMore, RecordMore, marksIn, answerOf};
+ghost use Rattle.resume.specs.Way.{endBelow, backTo, onFrom, Lies, LiesBelow, NumberOf, Leads, MarkPut};
+ghost use Rattle.resume.specs.State.{RootsDone, AllDone, visitAnswer, progressMore, listingMore, RecordMore, marksIn, answerOf};
 use context::CTX_ID;
 use context::TARGETS;
 use open::CONTEXT;
@@ -29,24 +28,30 @@ use traversal::Walked;
 // The depth of the last context visited, and a place for each level.
 const WAY: usize = 201;
 
-// Whether the walk goes on to list or pass the context at `p`: Complete, or how it ends.
+// A place of the walk: below `up` contexts of the way, at `p` in an array that ends at `end`.
+struct Cursor {
+    up: usize,
+    p: usize,
+    end: usize,
+}
+
+// Whether the walk goes on to list or pass the context there: Complete, or how it ends.
 fn visit_answer(
     file: &[u8],
     targets: &[u64; TARGETS],
-    depth: usize,
-    p: usize,
-    stop: usize,
+    here: Cursor,
     table: &[u64],
     words: usize,
     k: usize,
 ) -> Walked
-    requires { ⌜ (p ≤ stop) × (stop ≤ length (now file)) ⌝ }
-    ensures { λ r. ⌜ r ≡ visitAnswer (now (file .entry)) (targetsIn (now (targets .entry))) depth p stop (now (table .entry)) words k ⌝ }
+    requires { ⌜ (here .up < 201) × (here .p ≤ here .end) × (here .end ≤ length (now file)) ⌝ }
+    ensures { λ r. ⌜ r ≡ visitAnswer (now (file .entry)) (targetsIn (now (targets .entry))) here (now (table .entry)) words k ⌝ }
 {
-    if !context::context_rule(file, p, stop) {
+    if !context::context_rule(file, here.p, here.end) {
         return Walked::Refused(Refusal::Context, k);
     }
-    let check = visit::visit_check(file, targets, depth as u64, p, table);
+    let depth = here.up as u64 + 1;
+    let check = visit::visit_check(file, targets, depth, here.p, table);
     if let Check::Refused(r) = check {
         return Walked::Refused(r, k);
     }
@@ -56,42 +61,56 @@ fn visit_answer(
     Walked::Complete(k)
 }
 
-// The context at `p` has its slot, and the way leads to it.
-fn store_visit(file: &[u8], p: usize, depth: usize, table: &mut [u64], way: &mut [u64; WAY])
-    requires { ⌜ p + 24 ≤ length (now file) ⌝ }
-    requires { ⌜ (field (now file) p ctxId < length (now table)) × (depth < 201) ⌝ }
-    ensures { λ _. ⌜ now (table .exit) ≡ set (now (table .entry)) (field (now (file .entry)) p ctxId) p ⌝ }
-    ensures { λ _. ⌜ now (way .exit) ≡ set (set (now (way .entry)) 0 depth) depth p ⌝ }
+// The context there has its slot, and the way leads to it.
+fn store_visit(file: &[u8], here: Cursor, table: &mut [u64], way: &mut [u64; WAY])
+    requires { ⌜ here .p + 24 ≤ length (now file) ⌝ }
+    requires { ⌜ (field (now file) (here .p) ctxId < length (now table)) × (here .up < 200) ⌝ }
+    ensures { λ _. ⌜ now (table .exit) ≡ set (now (table .entry)) (field (now (file .entry)) (here .p) ctxId) (here .p) ⌝ }
+    ensures { λ _. ⌜ now (way .exit) ≡ set (set (now (way .entry)) 0 (here .up + 1)) (here .up + 1) (here .p) ⌝ }
 {
-    let id = le::load_u32(file, p + CTX_ID) as usize;
-    table[id] = p as u64;
+    let id = le::load_u32(file, here.p + CTX_ID) as usize;
+    let depth = here.up + 1;
+    table[id] = here.p as u64;
     way[0] = depth as u64;
-    way[depth] = p as u64;
+    way[depth] = here.p as u64;
 }
 
-// Lists the context at `p` if the mark is passed; gives the marks passed after it. `found`, that it is the mark's context, counts only while
-// the mark is not passed.
-fn list(
+// How many marks are passed, and while there are none, how far the given one is found.
+struct Progress {
+    marks: usize,
+    seek: Seek,
+}
+
+// The context there is listed if the mark is passed, and else it is passed over.
+fn list_or_pass(
     file: &[u8],
-    p: usize,
-    depth: usize,
-    found: bool,
+    mark: &[u8],
+    here: Cursor,
     listing: &mut [u64],
     records: &mut [u64],
-    k: usize,
-) -> usize
-    requires { ⌜ Readable (now file) p ⌝ }
-    requires { ⌜ k ≤ length (now listing) ⌝ }
-    ensures { λ r. ⌜ r ≡ marksMore k found ⌝ }
-    ensures { λ _. ⌜ now (listing .exit) ≡ listingMore k p (now (listing .entry)) ⌝ }
-    ensures { λ _. ⌜ RecordMore (now (file .entry)) p depth k (now (records .entry)) (now (records .exit)) ⌝ }
+    so_far: Progress,
+) -> Progress
+    requires { ⌜ Readable (now file) (here .p) × (here .up < 200) ⌝ }
+    requires { ⌜ isNamed (decode (now mark)) ≡ true ⌝ }
+    requires { ⌜ «so_far» .marks ≤ length (now listing) ⌝ }
+    requires { ⌜ («so_far» .marks ≡ 0 → «so_far» .seek .matched < length (pathIn (decode (now mark)))) ⌝ }
+    ensures { λ r. ⌜ r ≡ progressMore (pathIn (decode (now (mark .entry)))) («so_far» .marks) («so_far» .seek) (here .up) ⌝ }
+    ensures { λ _. ⌜ now (listing .exit) ≡ listingMore («so_far» .marks) (here .p) (now (listing .entry)) ⌝ }
+    ensures { λ _. ⌜ RecordMore (now (file .entry)) (here .p) (here .up + 1) («so_far» .marks) (now (records .entry)) (now (records .exit)) ⌝ }
 {
+    let k = so_far.marks;
+    let seek = so_far.seek;
     if k == 0 {
-        return if found { 1 } else { 0 };
+        let next = seek::step(mark, seek, here.up);
+        let found = next.matched == mark::depth(mark);
+        return Progress {
+            marks: if found { 1 } else { 0 },
+            seek: next,
+        };
     }
-    listing[k - 1] = p as u64;
-    visit::put_record(file, p, depth as u64, records, k - 1);
-    k + 1
+    listing[k - 1] = here.p as u64;
+    visit::put_record(file, here.p, here.up as u64 + 1, records, k - 1);
+    Progress { marks: k + 1, seek }
 }
 
 // Where the array ends that lies below `up` contexts of the way.
@@ -107,26 +126,41 @@ fn end_of(file: &[u8], stop: usize, way: &[u64; WAY], up: usize) -> usize
     le::load_u64(file, q + 8) as usize + le::load_u64(file, q) as usize
 }
 
-// The place next to the context on the way below `up` others.
-fn next_to(file: &[u8], way: &[u64; WAY], up: usize) -> usize
+// Back up: behind the context on the way below `up` others, in its array.
+fn back_to(file: &[u8], stop: usize, way: &[u64; WAY], up: usize) -> Cursor
     requires { ⌜ up + 1 < 201 ⌝ }
+    requires { ⌜ LiesBelow (now file) (now way) up ⌝ }
     requires { ⌜ LiesBelow (now file) (now way) (suc up) ⌝ }
-    ensures { λ r. ⌜ r ≡ nextBelow (now (file .entry)) (now (way .entry)) up ⌝ }
+    ensures { λ r. ⌜ r ≡ backTo (now (file .entry)) stop (now (way .entry)) up ⌝ }
 {
     let q = way[up + 1] as usize;
-    q + context::extent(file, q)
+    Cursor {
+        up,
+        p: q + context::extent(file, q),
+        end: end_of(file, stop, way, up),
+    }
 }
 
-// Nothing is sought once the mark is passed.
-fn step_until_passed(mark: &[u8], seek: Seek, up: usize, k: usize) -> Seek
-    requires { ⌜ isNamed (decode (now mark)) ≡ true ⌝ }
-    requires { ⌜ (k ≡ 0 → seek .matched < length (pathIn (decode (now mark)))) ⌝ }
-    ensures { λ r. ⌜ r ≡ either (eqb k 0) (stepped (pathIn (decode (now (mark .entry)))) seek up) seek ⌝ }
+// On from the context there: into its children, or behind it where it has none.
+fn on_from(file: &[u8], here: Cursor) -> Cursor
+    requires { ⌜ here .up < 201 ⌝ }
+    requires { ⌜ Lies (now file) (here .p) ⌝ }
+    ensures { λ r. ⌜ r ≡ onFrom (now (file .entry)) here ⌝ }
 {
-    if k != 0 {
-        return seek;
+    let bytes = le::load_u64(file, here.p) as usize;
+    if bytes == 0 {
+        return Cursor {
+            up: here.up,
+            p: here.p + context::extent(file, here.p),
+            end: here.end,
+        };
     }
-    seek::step(mark, seek, up)
+    let place = le::load_u64(file, here.p + 8) as usize;
+    Cursor {
+        up: here.up + 1,
+        p: place,
+        end: place + bytes,
+    }
 }
 
 // Depth 0 is passed before the first context.
@@ -154,41 +188,32 @@ fn contexts(
     ensures { λ r. ⌜ RootsDone (now (file .entry)) (targetsIn (now (targets .entry))) (pathIn (decode (now (mark .entry)))) at stop (slices (now (listing .entry)) (now (table .entry)) (now (records .entry)))
         r (slices (now (listing .exit)) (now (table .exit)) (now (records .exit))) (now (way .exit)) ⌝ }
 {
-    let marked = mark::depth(mark);
-    let mut k = first_mark(marked);
-    let mut up: usize = 0;
-    let mut p = at;
-    let mut end = stop;
-    let mut seek = Seek {
-        matched: 0,
-        seen: 0,
+    let mut here = Cursor {
+        up: 0,
+        p: at,
+        end: stop,
+    };
+    let mut so_far = Progress {
+        marks: first_mark(mark::depth(mark)),
+        seek: Seek {
+            matched: 0,
+            seen: 0,
+        },
     };
     loop {
-        if end <= p {
-            if up == 0 {
-                return Walked::Complete(k);
-            }
-            up -= 1;
-            p = next_to(file, way, up);
-            end = end_of(file, stop, way, up);
-        } else {
-            let depth = up + 1;
-            let goes = visit_answer(file, targets, depth, p, end, table, listing.len(), k);
+        if here.p < here.end {
+            let goes = visit_answer(file, targets, here, table, listing.len(), so_far.marks);
             let Walked::Complete(_) = goes else {
                 return goes;
             };
-            store_visit(file, p, depth, table, way);
-            seek = step_until_passed(mark, seek, up, k);
-            let found = seek.matched == marked;
-            k = list(file, p, depth, found, listing, records, k);
-            let bytes = le::load_u64(file, p) as usize;
-            if bytes == 0 {
-                p += context::extent(file, p);
-            } else {
-                up = depth;
-                p = le::load_u64(file, p + 8) as usize;
-                end = p + bytes;
+            store_visit(file, here, table, way);
+            so_far = list_or_pass(file, mark, here, listing, records, so_far);
+            here = on_from(file, here);
+        } else {
+            if here.up == 0 {
+                return Walked::Complete(so_far.marks);
             }
+            here = back_to(file, stop, way, here.up - 1);
         }
     }
 }
@@ -210,9 +235,9 @@ fn walk_in(
         r (slices (now (listing .exit)) (now (table .exit)) (now (records .exit))) (now (way .exit)) ⌝ }
 {
     let targets = context::targets_of(file, sections);
-    let at = sections[CONTEXT][0];
-    let bytes = le::u64_at(file, at, 0) as usize;
-    let place = le::u64_at(file, at, 8) as usize;
+    let at = sections[CONTEXT][0] as usize;
+    let bytes = le::load_u64(file, at) as usize;
+    let place = le::load_u64(file, at + 8) as usize;
     buffer::clear(table);
     if bytes == 0 {
         return Walked::Complete(first_mark(mark::depth(mark)));
@@ -318,7 +343,8 @@ fn walk_opened(
         return answer_of(walked);
     }
     if asks {
-        let start = le::u64_at(file, sections[CONTEXT][0], 8) as usize;
+        let at = sections[CONTEXT][0] as usize;
+        let start = le::load_u64(file, at + 8) as usize;
         put_mark(file, start, &way, new_mark);
         return answer_of(walked);
     }

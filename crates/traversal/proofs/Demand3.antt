@@ -1,6 +1,6 @@
 -- Demand 3. A walk is the trail from just after its mark, truncated to the listing's words; with more room that trail only goes on.
 use Prim.Native.Nat.{ℕ, _+_, _≤_, _<_}
-use mathlib.Core.Bool.{Bool, true, false, and-false, true≢false}
+use mathlib.Core.Bool.{Bool, true, false, true≢false}
 use mathlib.Core.List.{List, [], _++_, map, map-append}
 use mathlib.Core.Path.{_≡_, refl, sym, ap, _∙_, subst}
 use native.Mathlib.Nat.{min-comm}
@@ -8,22 +8,23 @@ use native.Mathlib.Omega.{arith}
 use borrow.Author.Tests.{leb-true, leb-false}
 use lib.Dec.{leb}
 use lib.ListN.{length, take, drop, length-take, length-map}
-use lib.Seq.{take-at, drop-at, take-nil}
+use lib.Seq.{take-at, drop-at}
 use Rattle.refusal.specs.declared.Refusal.{Refusal}
 use Rattle.refusal.specs.declared.Check.{Check}
 use Rattle.refusal.specs.declared.Check.the-variants as Check
 use Rattle.refusal.specs.Check.{either, ifPassed}
-use Rattle.buffer.proofs.Laws.{over-none, over-eq}
+use Rattle.buffer.proofs.Laws.{over-eq}
 use Rattle.context.specs.Entry.{Entry}
 use Rattle.traversal.specs.declared.Walked.{Walked}
 use Rattle.traversal.specs.declared.Walked.the-variants.{Complete, Truncated, Refused}
 use Rattle.traversal.specs.Traversal.{Marks, Asked, ask, Outcome, on, cut, refused, listOf, traversal}
 use Rattle.traversal.specs.From.{isPassed, afterMark, upToMark, withList, unpassed, fromMark}
-use Rattle.traversal.specs.Walk.{walkCheck, givenPath, trailFrom, walkOf, markPassed, reached, walkedOf, numberListed, placeOf, listingWith, tableWith, wordsOf, recordsWith, tableAfter, markAfter, Slices, LeavesFrom, itself}
+use Rattle.traversal.specs.Walk.{truncate, walkCheck, givenPath, trailFrom, walkOf, markPassed, reached, walkedOf, numberListed, placeOf, listingWith, tableWith, tableAfter, Slices, LeavesFrom, itself}
 use Rattle.traversal.specs.Demand3.{Call, asked, listedNumber, listedWords, trail, listed, Untouched, OneWalk, Final, Begins, TwoWalks, AskedAlike, Demand3}
 use Rattle.traversal.proofs.Begins.{take-own}
 use Rattle.traversal.proofs.Cut.{truncate-short, truncate-long, list-truncate}
 use Rattle.traversal.proofs.Grows.{isCut, never-cut}
+use Rattle.traversal.proofs.Untouched.{not-begun}
 use Rattle.traversal.proofs.Trail.{trail-from-same}
 use Rattle.traversal.proofs.MoreRoom.{entries-begin, entries-same}
 use Rattle.traversal.proofs.Table.{length-table}
@@ -145,6 +146,15 @@ module _ {file : List ℕ} (c : Call file) where
           absurd (true≢false (sym (ap saysCut e) ∙ ap saysCut whole ∙ says-cut (trailFrom a) ∙ never-trail-cut a))
       go false h = leb-false (length (trail c)) room h
 
+  -- so one that is not cut has room for all, and gives the trail's end
+  pub not-cut : ((n : ℕ) → c .answer ≡ Truncated n → ⊥)
+      → (length (trail c) ≤ length (c .was .listing)) × (c .answer ≡ walkedOf (trailFrom (asked c)))
+  not-cut f = go (leb (length (trail c)) room) refl
+    where
+      go : (b : Bool) → leb (length (trail c)) room ≡ b → (length (trail c) ≤ room) × (c .answer ≡ walkedOf (trailFrom a))
+      go true e = let h = leb-true (length (trail c)) room e in (h, short-end h)
+      go false e = absurd (f (listedNumber c) (cut-says (leb-false (length (trail c)) room e)))
+
   -- ---- its table
 
   pub filled : walkCheck (asked c) ≡ Check.Passed → c .now .table ≡ tableWith (reached (asked c)) (length (c .was .table))
@@ -162,14 +172,13 @@ module _ {file : List ℕ} (c : Call file) where
   -- ---- refused before the trail
 
   nothing-changed : (r : Refusal) → walkCheck a ≡ Check.Refused r → Untouched c r
-  unfolding walkOf trailFrom tableAfter ifPassed walkedOf listingWith recordsWith wordsOf markAfter markPassed either
   nothing-changed r e =
-      let none : walkOf a ≡ refused r [] = rw e (truncate-short room (refused r []) (omega arith)) in (
-        c .promised .answers ∙ ap walkedOf none,
-        c .promised .lists ∙ rw none (over-none (c .was .listing) 0),
-        c .promised .fills ∙ rw e,
-        c .promised .recorded ∙ rw (none, take-nil) (over-none (c .was .records) 0),
-        c .promised .marked ∙ rw (e, and-false),
+      let left = not-begun file (c .marks) (c .was) r e in (
+        c .promised .answers ∙ sym (left .answers),
+        c .promised .lists ∙ sym (left .lists),
+        c .promised .fills ∙ sym (left .fills),
+        c .promised .recorded ∙ sym (left .recorded),
+        c .promised .marked ∙ sym (left .marked),
       )
 
   -- ---- the contexts reached
@@ -209,7 +218,9 @@ module _ {file : List ℕ} (old new : Call file) (alike : AskedAlike old new) (h
   wider = ask file (old .marks) (asked new .lent)
 
   same-asked : walkOf wider ≡ walkOf (asked new)
-  same-asked = ap (λ (m : Marks). walkOf (ask file m (asked new .lent))) (alike .same-marks)
+  unfolding walkOf
+  same-asked = ap (truncate (asked new .lent .words))
+      (trail-from-same file (old .marks) (new .marks) (alike .same-mark) (alike .same-asks) (asked new .lent) (asked new .lent) (λ e. refl) refl)
 
   begin : Begins (listOf (walkOf (asked old))) (listOf (walkOf (asked new)))
   begin = subst (λ (o : Outcome). Begins (listOf (walkOf (asked old))) (listOf o)) same-asked
@@ -232,8 +243,7 @@ module _ {file : List ℕ} (old new : Call file) (alike : AskedAlike old new) (h
 one-trail-of : {file : List ℕ} (c d : Call file) → AskedAlike c d → length (c .was .table) ≡ length (d .was .table)
     → trailFrom (asked c) ≡ trailFrom (asked d)
 one-trail-of {file = file} c d alike e =
-    trail-from-same file (c .marks) (asked c .lent) (asked d .lent) (alike .same-room) e
-    ∙ ap (λ (m : Marks). trailFrom (ask file m (asked d .lent))) (alike .same-marks)
+    trail-from-same file (c .marks) (d .marks) (alike .same-mark) (alike .same-asks) (asked c .lent) (asked d .lent) (alike .same-room) e
 
 pub demand3 : Demand3
 demand3 = record {

@@ -1,11 +1,11 @@
 -- Outcomes with other contexts; the traversal from just after a mark, by whether the mark is passed; and from none.
 use Prim.Native.Nat.{ℕ}
-use mathlib.Core.Bool.{true, false}
+use mathlib.Core.Bool.{Bool, true, false}
 use mathlib.Core.List.{List, []}
-use mathlib.Core.Path.{_≡_, refl, ap, _∙_}
+use mathlib.Core.Path.{_≡_, refl, sym, ap, _∙_}
 use native.Mathlib.Omega.{arith}
-use borrow.Author.Tests.{le-leb}
-use lib.ListN.{length}
+use borrow.Author.Tests.{le-leb, leb-false}
+use lib.ListN.{length, drop-of-length-le}
 use Rattle.refusal.specs.Check.{either}
 use Rattle.context.specs.Entry.{Entry}
 use Rattle.traversal.specs.Traversal.{Outcome, on, cut, refused, listOf}
@@ -40,8 +40,17 @@ module _ (path : List ℕ) (o : Outcome) where
   unfolding fromMark either
   from-unpassed h = rw h
 
-  pub list-passed : isPassed path (listOf o) ≡ true → listOf (fromMark path o) ≡ afterMark path (listOf o)
-  list-passed h = ap listOf (from-passed h) ∙ list-with o (afterMark path (listOf o))
+  none-after : isPassed path (listOf o) ≡ false → afterMark path (listOf o) ≡ []
+  unfolding isPassed afterMark
+  none-after h = drop-of-length-le (listOf o) {i = skipped path (listOf o)} (omega (arith, leb-false (skipped path (listOf o)) (length (listOf o)) h))
+
+  -- its contexts, passed or not
+  pub list-from : listOf (fromMark path o) ≡ afterMark path (listOf o)
+  list-from = go (isPassed path (listOf o)) refl
+    where
+      go : (b : Bool) → isPassed path (listOf o) ≡ b → listOf (fromMark path o) ≡ afterMark path (listOf o)
+      go true h = ap listOf (from-passed h) ∙ list-with o (afterMark path (listOf o))
+      go false h = ap listOf (from-unpassed h) ∙ list-unpassed o ∙ sym (none-after h)
 
 -- ---- depth 0 is always passed, and passes over nothing
 

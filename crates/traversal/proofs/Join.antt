@@ -19,7 +19,7 @@ use Rattle.traversal.specs.From.{marksOf, skipped, isPassed, afterMark, 
 use Rattle.traversal.specs.Walk.{truncate, walkCheck, givenPath, trailFrom, walkOf, newPath, reached}
 use Rattle.traversal.proofs.Begins.{take-own}
 use Rattle.traversal.proofs.Cut.{truncate-short, truncate-long, list-truncate}
-use Rattle.traversal.proofs.From.{list-with, with-with, with-own, list-unpassed, from-passed, from-unpassed, list-passed}
+use Rattle.traversal.proofs.From.{list-with, with-with, with-own, list-unpassed, from-passed, from-unpassed, list-from}
 use Rattle.traversal.proofs.Preorder.{paths-distinct}
 use Rattle.traversal.proofs.Places.{markAt, skipped-mark, passed-mark, mark-skipped, last-append, last-all, last-mark}
 
@@ -91,21 +91,16 @@ unfolding upToMark either
 up-to-passed path l h = rw h
 
 -- the contexts after its mark, as many as there is room for
-pub list-walk : (o : Outcome) (path : List ℕ) (n : ℕ) → isPassed path (listOf o) ≡ true
-    → listOf (walkFrom path n o) ≡ take n (afterMark path (listOf o))
+pub list-walk : (o : Outcome) (path : List ℕ) (n : ℕ) → listOf (walkFrom path n o) ≡ take n (afterMark path (listOf o))
 unfolding walkFrom
-list-walk o path n h = list-truncate n (fromMark path o) ∙ ap (take n) (list-passed path o h)
+list-walk o path n = list-truncate n (fromMark path o) ∙ ap (take n) (list-from path o)
 
 -- so they are among all
 walk-all : (P : Entry → Type 0) (o : Outcome) (path : List ℕ) (n : ℕ) → All P (listOf o) → All P (listOf (walkFrom path n o))
 unfolding afterMark
-walk-all P o path n k = go (isPassed path (listOf o)) refl
-  where
-    go : (b : Bool) → isPassed path (listOf o) ≡ b → All P (listOf (walkFrom path n o))
-    go true h =
-        subst (All P) (sym (list-walk o path n h))
-        (all-take P n (drop (skipped path (listOf o)) (listOf o)) (all-drop P (skipped path (listOf o)) (listOf o) k))
-    go false h = subst (All P) (sym (ap listOf (walk-unpassed o path n h) ∙ list-unpassed o)) tt
+walk-all P o path n k =
+    subst (All P) (sym (list-walk o path n))
+    (all-take P n (drop (skipped path (listOf o)) (listOf o)) (all-drop P (skipped path (listOf o)) (listOf o) k))
 
 module _ (o : Outcome) (apart : Distinct (marksOf (listOf o))) (path : List ℕ) (n : ℕ) (h : isPassed path (listOf o) ≡ true) where
   -- how many they are, and the number of the new mark
@@ -127,7 +122,7 @@ module _ (o : Outcome) (apart : Distinct (marksOf (listOf o))) (path : List ℕ)
   new-mark : pathAfter path n o ≡ markAt (listOf o) arrived
   unfolding pathAfter afterMark
   new-mark =
-      ap₂ lastPath (sym (mark-skipped path (listOf o) mark-inside)) (list-walk o path n h ∙ sym (take-own n (afterMark path (listOf o))))
+      ap₂ lastPath (sym (mark-skipped path (listOf o) mark-inside)) (list-walk o path n ∙ sym (take-own n (afterMark path (listOf o))))
       ∙ last-mark (listOf o) (skipped path (listOf o)) gone arrived-inside
 
   pub new-passed : isPassed (pathAfter path n o) (listOf o) ≡ true
@@ -142,7 +137,7 @@ module _ (o : Outcome) (apart : Distinct (marksOf (listOf o))) (path : List ℕ)
   up-to-new =
       up-to-passed (pathAfter path n o) (listOf o) new-passed ∙ ap (λ (k : ℕ). take k (listOf o)) new-skipped
       ∙ take-add (skipped path (listOf o)) gone (listOf o)
-      ∙ ap₂ _++_ (sym (up-to-passed path (listOf o) h)) (take-own n (afterMark path (listOf o)) ∙ sym (list-walk o path n h))
+      ∙ ap₂ _++_ (sym (up-to-passed path (listOf o) h)) (take-own n (afterMark path (listOf o)) ∙ sym (list-walk o path n))
 
   -- and after it: what stands after those listed
   after-new : afterMark (pathAfter path n o) (listOf o) ≡ drop gone (afterMark path (listOf o))
@@ -165,7 +160,7 @@ module _ (o : Outcome) (apart : Distinct (marksOf (listOf o))) (path : List ℕ)
       let after = after-new o apart path a h in
       ap₂ withList
       (ap (truncate b) (from-passed (pathAfter path a o) o next) ∙ ap (λ (m : List Entry). truncate b (withList o m)) after)
-      (ap₂ _++_ (list-walk o path a h) (list-walk o (pathAfter path a o) b next ∙ ap (take b) after))
+      (ap₂ _++_ (list-walk o path a) (list-walk o (pathAfter path a o) b ∙ ap (take b) after))
       ∙ truncate-join (afterMark path (listOf o)) a b o ∙ sym (ap (truncate (a + b)) (from-passed path o h))
 
   join-unpassed : isPassed path (listOf o) ≡ false → Joins

@@ -14,7 +14,7 @@ use Rattle.layout.specs.Octets.{Octets}
 use Rattle.le.specs.Number.{number}
 use Rattle.open.specs.Format.{meta}
 use Rattle.open.specs.Opening.{opening}
-use Rattle.mark.specs.Mark.{encode, named, decode, isNamed, pathIn, Encodable}
+use Rattle.mark.specs.Mark.{encode, Decoded, named, decode, isNamed, pathIn, Encodable}
 use Rattle.mark.proofs.Bytes.{decode-encode, decoded-encodable, mark-read}
 use Rattle.context.specs.Entry.{Entry}
 use Rattle.traversal.specs.declared.Walked.{Walked}
@@ -98,14 +98,14 @@ unpassed-trail a h = go (walkCheck a) h
 
 -- ---- two calls with the same mark given and tables as long, whatever they ask for
 
-module _ {file : List ℕ} (c d : Call file) (given : d .marks .given ≡ c .marks .given) (slots : length (d .was .table) ≡ length (c .was .table))
+module _ {file : List ℕ} (c d : Call file) (given : decode (d .marks .given) ≡ decode (c .marks .given)) (slots : length (d .was .table) ≡ length (c .was .table))
     (roomy-c : Roomy c) (roomy-d : Roomy d) where
   alike-check : walkCheck (asked d) ≡ walkCheck (asked c)
   alike-check =
-      roomy-check d roomy-d ∙ ap (λ (m : List ℕ). first (opening meta file) (rule (isNamed (decode m)) No.Mark)) given ∙ sym (roomy-check c roomy-c)
+      roomy-check d roomy-d ∙ ap (λ (m : Decoded). first (opening meta file) (rule (isNamed m) No.Mark)) given ∙ sym (roomy-check c roomy-c)
 
   alike-given : givenPath (asked d) ≡ givenPath (asked c)
-  alike-given = ap (λ (m : List ℕ). pathIn (decode m)) given
+  alike-given = ap pathIn given
 
   alike-traversal : traversal (asked d) ≡ traversal (asked c)
   alike-traversal = trail-same file (d .marks) (c .marks) (asked d .lent) (asked c .lent) slots
@@ -173,7 +173,7 @@ module _ {file : List ℕ} (octets : Octets file) (c d : Call file) (can : Encod
   unfolding pathIn
   next-encodable = subst Encodable (sym (ap pathIn read-back)) new-encodable
 
-  module _ (whole : Call file) (given : whole .marks .given ≡ c .marks .given)
+  module _ (whole : Call file) (given : decode (whole .marks .given) ≡ decode (c .marks .given))
       (room : length (whole .was .listing) ≡ length (c .was .listing) + length (d .was .listing))
       (slots : length (whole .was .table) ≡ length (c .was .table)) (roomy-d : Roomy d) (roomy-whole : Roomy whole) where
     abbrev o : Outcome
@@ -269,7 +269,7 @@ module _ {file : List ℕ} (octets : Octets file) where
   joined-from : (c : Call file) (ds : List (Call file)) (whole : Call file) → Encodable (givenPath (asked c)) → Parts c ds → AsOne c ds whole
       → Joined c ds whole
   joined-from c [] whole can p one =
-      one-joined c whole (one .same-given) (one .same-table) (one .last-roomy) (one .whole-roomy) (one .joined-room)
+      one-joined c whole (one .same-mark) (one .same-table) (one .last-roomy) (one .whole-roomy) (one .joined-room)
   joined-from c (d ∷ ds) whole can p one =
       -- the rest as one walk
       let rest : Call file =
@@ -278,7 +278,7 @@ module _ {file : List ℕ} (octets : Octets file) where
       let room : length (rest .was .listing) ≡ joinedRoom d ds = length-replicate (joinedRoom d ds) 0 in
       let later : Joined d ds rest =
       joined-from d ds rest (next-encodable octets c d can (p .0)) (p .1) (record {
-        same-given = refl;
+        same-mark = refl;
         joined-room = room;
         same-table = one .same-table ∙ sym (p .0 .table-as-long);
         whole-roomy = one .whole-roomy;
@@ -294,9 +294,9 @@ module _ {file : List ℕ} (octets : Octets file) where
       let rooms : length (whole .was .listing) ≡ length (c .was .listing) + length (rest .was .listing) =
       one .joined-room ∙ ap (λ (k : ℕ). length (c .was .listing) + k) (sym room) in
       let both : Joined c (rest ∷ []) whole =
-      two-joined octets c rest can follows whole (one .same-given) rooms (one .same-table) (one .whole-roomy) (one .whole-roomy) in
-      let check = check-d octets c rest can follows whole (one .same-given) rooms (one .same-table) (one .whole-roomy) (one .whole-roomy) in
-      let passed = next-passed octets c rest can follows whole (one .same-given) rooms (one .same-table) (one .whole-roomy) (one .whole-roomy) in
+      two-joined octets c rest can follows whole (one .same-mark) rooms (one .same-table) (one .whole-roomy) (one .whole-roomy) in
+      let check = check-d octets c rest can follows whole (one .same-mark) rooms (one .same-table) (one .whole-roomy) (one .whole-roomy) in
+      let passed = next-passed octets c rest can follows whole (one .same-mark) rooms (one .same-table) (one .whole-roomy) (one .whole-roomy) in
       let number : listedNumber rest ≡ joinedNumber d ds =
       ap numberListed (later .ends) ∙ number-with (lastPart d ds .answer) (joinedNumber d ds) in
       record {

@@ -6,6 +6,7 @@ pub mod Passing
 pub mod Grows
 pub mod Alike
 pub mod Cut
+pub mod Untouched
 pub mod Wider
 pub mod Trail
 pub mod MoreRoom

@@ -63,7 +63,7 @@ module _ (file : List ℕ) (m : Marks) (n n' : Lengths) (room : m .asks ≡ true
 
   wider-trail : Wider (trailFrom less) (trailFrom more)
   unfolding trailFrom ifPassed
-  wider-trail = rw (check-same file m n n' room) (go (walkCheck more))
+  wider-trail = rw (check-same file m m refl refl n n' room) (go (walkCheck more))
     where
       go : (v : Check)
           → Wider (ifPassed (λ r. refused r []) v (fromMark (givenPath less) (traversal less)))

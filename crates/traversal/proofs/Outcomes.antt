@@ -7,10 +7,8 @@ use mathlib.Core.Logic.{_↔_, _⊎_, inl, inr}
 use mathlib.Core.Path.{_≡_, refl, sym, ap, ap₂, _∙_, subst}
 use native.Mathlib.Nat.{not-suc-le-zero, le-of-suc-le-suc}
 use native.Mathlib.Omega.{arith}
-use borrow.Author.Tests.{leb-true, leb-false}
-use lib.Dec.{leb}
+use borrow.Author.Tests.{leb-true}
 use lib.ListN.{length, take, drop, getD, length-append}
-use lib.Seq.{take-nil}
 use Rattle.refusal.specs.declared.Refusal.{Refusal}
 use Rattle.refusal.specs.declared.Refusal.the-variants as No
 use Rattle.refusal.specs.declared.Check.{Check}
@@ -18,7 +16,7 @@ use Rattle.refusal.specs.declared.Check.the-variants as Check
 use Rattle.refusal.specs.Check.{either, rule, first, ifPassed}
 use Rattle.refusal.specs.Number.{numberOf}
 use Rattle.buffer.specs.Over.{over}
-use Rattle.buffer.proofs.Laws.{over-none, drop-over}
+use Rattle.buffer.proofs.Laws.{drop-over}
 use Rattle.open.specs.Format.{meta}
 use Rattle.open.specs.Opening.{opening}
 use Rattle.seq.specs.Lists.{Distinct}
@@ -35,6 +33,7 @@ use Rattle.traversal.specs.Demand3.{Call, asked, listedNumber, trail, li
 use Rattle.traversal.specs.Joined.{OnTrail, Roomy, Begun, Cleared, contexts, MarkFails, fitting, ListsAndFills, Outcomes}
 use Rattle.traversal.proofs.From.{list-with, with-own, from-passed, from-unpassed, root-skipped, root-passed, root-after}
 use Rattle.traversal.proofs.Keeps.{snoc}
+use Rattle.traversal.proofs.Untouched.{none-recorded}
 use Rattle.traversal.proofs.Passing.{passed-append, marks-passed, marks-unpassed, marks-found}
 use Rattle.traversal.proofs.Preorder.{paths-distinct}
 use Rattle.traversal.proofs.Cut.{truncate-short}
@@ -42,7 +41,7 @@ use Rattle.traversal.proofs.Grows.{isCut, never-cut}
 use Rattle.traversal.proofs.Places.{markAt, same-refl, skipped-mark, mark-skipped}
 use Rattle.traversal.proofs.Join.{up-to-passed, new-path-all, reached-unpassed}
 use Rattle.traversal.proofs.Small.{contexts-shallow}
-use Rattle.traversal.proofs.Demand3.{lists-first, same-listed, filled, demand3}
+use Rattle.traversal.proofs.Demand3.{lists-first, same-listed, not-cut, filled, demand3}
 use Rattle.traversal.proofs.Rules.{ShortRoom, IllFormed, check-refused, check-told, roomy-check, no-room-check, begun-passes, begun-path, mark-passed}
 use Rattle.traversal.proofs.Refusals.{traversal-low}
 
@@ -134,7 +133,7 @@ module _ {file : List ℕ} (c : Call file) where
           answers,
           rw none at (one .beyond),
           filled c check ∙ rw (reached-unpassed a check lost),
-          c .promised .recorded ∙ rw (walk-end, take-nil) (over-none (c .was .records) 0),
+          c .promised .recorded ∙ none-recorded (c .was .records) (listOf (walkOf a)) (ap listOf walk-end),
           c .promised .marked ∙ rw (mark-passed a check ∙ lost, and-false),
         )
 
@@ -240,15 +239,6 @@ module _ {file : List ℕ} (c : Call file) where
   high : (r : Refusal) (n : ℕ) → c .answer ≡ Refused r n → 15 ≤ numberOf r → (walkCheck a ≡ Check.Refused r) ⊎ ((r ≡ No.Mark) × NotOnTrail)
   high r n q h = go (walkCheck a) refl (isPassed (givenPath a) (listOf (traversal a))) refl (traversal a) refl
     where
-      short : leb (length (trail c)) (length (c .was .listing)) ≡ true
-      short = go′ (leb (length (trail c)) (length (c .was .listing))) refl
-        where
-          go′ : (b : Bool) → leb (length (trail c)) (length (c .was .listing)) ≡ b → leb (length (trail c)) (length (c .was .listing)) ≡ true
-          go′ true e = e
-          go′ false e =
-              let t = one .says-cut .1 (omega (arith, leb-false (length (trail c)) (length (c .was .listing)) e)) in
-              absurd (let z : _≡_ {A = ℕ} 0 1 = cc in omega arith)
-
       go : (v : Check) → walkCheck a ≡ v → (b : Bool) → isPassed (givenPath a) (listOf (traversal a)) ≡ b → (o : Outcome) → traversal a ≡ o
           → (walkCheck a ≡ Check.Refused r) ⊎ ((r ≡ No.Mark) × NotOnTrail)
       go (Check.Refused s) e b p o t =
@@ -256,7 +246,7 @@ module _ {file : List ℕ} (c : Call file) where
           let same : s ≡ r = cc in
           inl (e ∙ ap Check.Refused same)
       go Check.Passed e true p o t =
-          let ends = sym (one .gives-end (leb-true (length (trail c)) (length (c .was .listing)) short)) ∙ q in
+          let ends = sym (not-cut c (λ m t. let z : _≡_ {A = ℕ} 0 1 = cc in omega arith) .1) ∙ q in
           absurd (omega (
             arith,
             ends-low r n (traversal a) refl (afterMark (givenPath a) (listOf (traversal a)))

@@ -34,7 +34,7 @@ pub record Counts (a : Asked) (ups : List ℕ) (i : ℕ) (l : List Entry) : Type
   pub way : Below (length l) ups
   pub paths : All (λ e. Counted (length l) (e .path)) l
 
-pub none-counted : (a : Asked) → Counts a [] 0 []
+none-counted : (a : Asked) → Counts a [] 0 []
 none-counted a = record { ids = record { distinct = tt; below = tt }; small = λ octets. tt; elder = omega arith; way = tt; paths = tt }
 
 below-more : (n m : ℕ) → n ≤ m → (l : List ℕ) → Below n l → Below m l
@@ -87,7 +87,7 @@ pub contexts-shallow : (a : Asked) → All (λ e. length (e .path) ≤ depthLimi
 contexts-shallow a = all-imp (λ e h. h .depth) (listOf (traversal a)) (counts-traversal a .1 .1 .paths)
 
 pub record Small (l : List Entry) : Type 0 where
-  pub ids-small : Below 4294967296 (map idOf l)
+  ids-small : Below 4294967296 (map idOf l)
   pub few : length l ≤ 4294967296
   pub encodable : All (λ e. Encodable (e .path)) l
 
@@ -109,7 +109,7 @@ pub contexts-encodable : (a : Asked) → Octets (a .file) → All (λ e. Encodab
 contexts-encodable a octets = traversal-small a octets .encodable
 
 -- so at the end of any level of any traversal, with room or not
-pub level-small : (E : Parameters) → Octets (E .asked .file) → (levels parent : ℕ) (path : List ℕ) (from stop : ℕ) (l : List Entry)
+level-small : (E : Parameters) → Octets (E .asked .file) → (levels parent : ℕ) (path : List ℕ) (from stop : ℕ) (l : List Entry)
     → Counts (E .asked) path 0 l → Small (listOf (level E levels parent path from stop l))
 level-small E octets levels parent path from stop l c =
     counted-small (E .asked) octets _ (somewhere E (Counts (E .asked)) path (level E levels parent path from stop l)

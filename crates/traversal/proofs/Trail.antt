@@ -11,7 +11,7 @@ use Rattle.refusal.specs.declared.Check.the-variants.{Passed, Refused}
 use Rattle.refusal.specs.Check.{rule, first, ifPassed}
 use Rattle.open.specs.Format.{meta}
 use Rattle.open.specs.Opening.{opening, pairs, onOpened}
-use Rattle.mark.specs.Mark.{markRoom, decode, isNamed, pathIn}
+use Rattle.mark.specs.Mark.{markRoom, Decoded, decode, isNamed, pathIn}
 use Rattle.context.specs.Context.{Targets, targetsOf}
 use Rattle.context.specs.Entry.{Entry}
 use Rattle.traversal.specs.Traversal.{Lengths, Marks, ask, Outcome, refused, endless, visitCheck, enter, bind, level, fromRoots, traversal}
@@ -57,21 +57,22 @@ trail-same file m m' n n' e = go (opening meta file)
 
 -- ---- from a mark
 
-module _ (file : List ℕ) (m : Marks) (n n' : Lengths) (room : m .asks ≡ true → n .bytes ≡ n' .bytes) where
-  pub check-same : walkCheck (ask file m n) ≡ walkCheck (ask file m n')
+module _ (file : List ℕ) (m m' : Marks) (mark : decode (m .given) ≡ decode (m' .given)) (asks : m .asks ≡ m' .asks) (n n' : Lengths)
+    (room : m .asks ≡ true → n .bytes ≡ n' .bytes) where
+  pub check-same : walkCheck (ask file m n) ≡ walkCheck (ask file m' n')
   unfolding walkCheck
-  check-same = go (m .asks) room
+  check-same = rw (mark, ← asks) (go (m .asks) room)
     where
       rest : Check
-      rest = first (opening meta file) (rule (isNamed (decode (m .given))) No.Mark)
+      rest = first (opening meta file) (rule (isNamed (decode (m' .given))) No.Mark)
 
       go : (b : Bool) → (b ≡ true → n .bytes ≡ n' .bytes)
           → first (rule (not b || leb markRoom (n .bytes)) No.Room) rest ≡ first (rule (not b || leb markRoom (n' .bytes)) No.Room) rest
       go true h = rw (h refl)
       go false h = refl
 
-  pub trail-from-same : n .slots ≡ n' .slots → trailFrom (ask file m n) ≡ trailFrom (ask file m n')
+  pub trail-from-same : n .slots ≡ n' .slots → trailFrom (ask file m n) ≡ trailFrom (ask file m' n')
   unfolding trailFrom
   trail-from-same e =
-      ap₂ (λ (v : Check) (o : Outcome). ifPassed (λ r. refused r []) v (fromMark (pathIn (decode (m .given))) o)) check-same
-      (trail-same file m m n n' e)
+      ap₂ (λ (v : Check) (o : Outcome). ifPassed (λ r. refused r []) v o) check-same
+      (ap₂ (λ (d : Decoded) (o : Outcome). fromMark (pathIn d) o) mark (trail-same file m m' n n' e))

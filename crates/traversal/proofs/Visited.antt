@@ -18,7 +18,7 @@ use Rattle.context.specs.Entry.{Entry}
 use Rattle.traversal.specs.Traversal.{Asked, Outcome, cut, listOf, depthLimit, fromRoots, traversal}
 use Rattle.traversal.specs.From.{skipped, isPassed, afterMark, upToMark, fromMark, lastPath, marksFrom, limitedFrom}
 use Rattle.traversal.specs.Walk.{truncate, walkCheck, givenPath, walkOf, markPassed, newPath, reached}
-use Rattle.traversal.proofs.From.{list-unpassed, from-passed, from-unpassed, list-passed}
+use Rattle.traversal.proofs.From.{list-unpassed, from-passed, from-unpassed, list-from}
 use Rattle.traversal.proofs.Passing.{skipped-front, marks-passed, marks-unpassed, after-length}
 use Rattle.traversal.proofs.Cut.{truncate-short, truncate-long, truncateAfter, after-short, after-long, cuts-after}
 use Rattle.traversal.proofs.Places.{markAt, mark-skipped, last-append, last-mark}
@@ -77,7 +77,7 @@ module _ (path : List ℕ) (n : ℕ) (o : Outcome) where
 
   from-long : isPassed path l ≡ true → n < length (afterMark path l) → FromAfter
   from-long h k =
-      let e = list-passed path o h in
+      let e = list-from path o in
       ap (fromMark path) (after-long path n o (omega (arith, after-length path l (marks-passed path l .1 h))))
       ∙ from-passed path (cut kept) (passed-kept h) ∙ ap cut (after-kept h ∙ ap (take n) (sym e))
       ∙ sym (truncate-long n (fromMark path o) (rw e k))
@@ -88,7 +88,7 @@ module _ (path : List ℕ) (n : ℕ) (o : Outcome) where
       by-room : isPassed path l ≡ true → (b : Bool) → leb (length (afterMark path l)) n ≡ b → FromAfter
       by-room h true e =
           let k = leb-true (length (afterMark path l)) n e in
-          from-short (rw (list-passed path o h) k) (omega (arith, after-length path l (marks-passed path l .1 h)))
+          from-short (rw (list-from path o) k) (omega (arith, after-length path l (marks-passed path l .1 h)))
       by-room h false e = from-long h (leb-false (length (afterMark path l)) n e)
 
       go : (b : Bool) → isPassed path l ≡ b → FromAfter
@@ -144,7 +144,7 @@ module _ (a : Asked) (check : walkCheck a ≡ Check.Passed) where
   all-visited : isPassed p whole ≡ true → upToMark p whole ++ listOf (walkOf a) ≡ listOf visits
   unfolding afterMark
   all-visited h =
-      ap₂ _++_ (up-to-passed p whole h) (ap listOf (walk-from a check) ∙ list-walk (traversal a) p words h)
+      ap₂ _++_ (up-to-passed p whole h) (ap listOf (walk-from a check) ∙ list-walk (traversal a) p words)
       ∙ sym (take-add (skipped p whole) words whole) ∙ sym (list-after p words (traversal a) h)
 
   last-visited : isPassed p whole ≡ true → newPath a ≡ lastPath [] (listOf visits)

@@ -21,7 +21,7 @@ use Rattle.traversal.specs.Demand3.{Begins, WantsRoom}
 use Rattle.traversal.specs.Traversal.{Lengths, Marks, ask, Outcome, on, cut, refused, listOf, endless, seen, slotCheck, visitCheck, enter, bind, level, depthLimit, fromRoots, traversal}
 use Rattle.traversal.specs.From.{isPassed, afterMark, fromMark}
 use Rattle.traversal.proofs.Begins.{begins-refl, begins-trans, begins-snoc}
-use Rattle.traversal.proofs.From.{from-passed, from-unpassed, list-passed}
+use Rattle.traversal.proofs.From.{from-passed, from-unpassed, list-from}
 use Rattle.traversal.proofs.Passing.{passed-append, after-append}
 use Rattle.traversal.proofs.Grows.{Grows, grows-bind}
 use Rattle.traversal.proofs.Alike.{always, left, right, alike-level}
@@ -125,7 +125,7 @@ from-refused path r m o g = go (isPassed path m) refl
     go true e =
         let p : isPassed path (listOf o) ≡ true = ap (isPassed path) (g .1) ∙ passed-append path m (g .0) e in
         let f : listOf (fromMark path o) ≡ afterMark path m ++ g .0 =
-        list-passed path o p ∙ ap (afterMark path) (g .1) ∙ after-append path m (g .0) e in
+        list-from path o ∙ ap (afterMark path) (g .1) ∙ after-append path m (g .0) e in
         (afterMark path m, (from-passed path (refused r m) e, (g .0, f)))
     go false e = ([], (from-unpassed path (refused r m) e, (listOf (fromMark path o), refl)))
 

@@ -9,6 +9,7 @@ use lib.ListN.{length, getD, take, drop}
 use Rattle.refusal.specs.declared.Refusal.{Refusal}
 use Rattle.refusal.specs.declared.Refusal.the-variants as No
 use Rattle.refusal.specs.declared.Check.the-variants as Check
+use Rattle.mark.specs.Mark.{decode}
 use Rattle.context.specs.Entry.{Entry}
 use Rattle.traversal.specs.declared.Walked.{Walked}
 use Rattle.traversal.specs.declared.Walked.the-variants.{Complete, Truncated, Refused}
@@ -111,9 +112,11 @@ pub record TwoWalks {file : List ℕ} (old new : Call file) : Type 0 where
   pub same-list : Final (old .answer) → listedWords new ≡ listedWords old
   pub same-end : Final (old .answer) → new .answer ≡ old .answer
 
--- "for each mark, .. where both walks ask for a new mark with the same room for it, or neither asks"
+-- "for each mark, .. where both walks ask for a new mark with the same room for it, or neither asks". A mark is what its bytes say: no bytes
+-- and those of depth 0 are the same
 pub record AskedAlike {file : List ℕ} (c d : Call file) : Type 0 where
-  pub same-marks : c .marks ≡ d .marks
+  pub same-mark : decode (c .marks .given) ≡ decode (d .marks .given)
+  pub same-asks : c .marks .asks ≡ d .marks .asks
   pub same-room : c .marks .asks ≡ true → length (c .was .mark) ≡ length (d .was .mark)
 
 -- ---- of any

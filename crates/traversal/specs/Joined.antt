@@ -140,7 +140,7 @@ withNumber (Refused r n) m = Refused r m
 -- "the joined room and the same table, where neither a part nor that walk is refused for its mark room": the parts but the last have room
 -- for their marks, since they follow one another
 pub record AsOne {file : List ℕ} (c : Call file) (ds : List (Call file)) (whole : Call file) : Type 0 where
-  pub same-given : whole .marks .given ≡ c .marks .given
+  pub same-mark : decode (whole .marks .given) ≡ decode (c .marks .given)
   pub joined-room : length (whole .was .listing) ≡ joinedRoom c ds
   pub same-table : length (whole .was .table) ≡ length (c .was .table)
   pub whole-roomy : Roomy whole
@@ -163,5 +163,5 @@ pub record GoingOn : Type 0 where
   pub as-one : (file : List ℕ) → Octets file → (c : Call file) (ds : List (Call file)) (whole : Call file) → Octets (c .marks .given)
       → Parts c ds → AsOne c ds whole → Joined c ds whole
   -- where a walk hands out no mark, since the one given is not passed, any other from it with a table as long answers as it does
-  pub unhanded : (file : List ℕ) (c d : Call file) → d .marks .given ≡ c .marks .given → length (d .was .table) ≡ length (c .was .table)
+  pub unhanded : (file : List ℕ) (c d : Call file) → decode (d .marks .given) ≡ decode (c .marks .given) → length (d .was .table) ≡ length (c .was .table)
       → Roomy c → Roomy d → markPassed (asked c) ≡ false → d .answer ≡ c .answer

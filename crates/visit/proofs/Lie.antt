@@ -11,7 +11,12 @@ use Rattle.open.specs.Opening.{field, placeIn, pairs}
 use Rattle.open.specs.Kept.{Sections}
 use Rattle.open.proofs.Keeps.{opens-iff}
 use Rattle.open.proofs.Inside.{section-inside, roots-kept}
+use Rattle.array.proofs.Bounds.{header-in}
 use Rattle.context.specs.Context.{Targets, targetsOf}
+
+-- where they are said to stand
+pub roots-header : (file : List ℕ) {ps : List (List ℕ)} → Sections meta file ps → placeIn ps Section.context + 16 ≤ length file
+roots-header file o = header-in meta file o Section.context (omega arith)
 
 pub roots-lie : (file : List ℕ) {ps : List (List ℕ)} → Sections meta file ps → (t : Targets) → t ≡ targetsOf file ps → (place bytes : ℕ)
     → place ≡ number 8 file (placeIn ps Section.context + 8) → bytes ≡ number 8 file (placeIn ps Section.context + 0) → 0 < bytes

@@ -11,12 +11,13 @@ use lib.ListN.{length, getD, set, take, replicate, length-append, length-set, le
 use lib.Seq.{getD-set-same, take-all, take-append-le}
 use Rattle.refusal.specs.Check.{either}
 use Rattle.buffer.specs.Over.{over}
-use Rattle.buffer.proofs.Laws.{over-append, over-one, length-over}
+use Rattle.buffer.proofs.Laws.{over-append, over-one}
 use Rattle.context.specs.Entry.{Entry, entryWords, wordsEach}
 use Rattle.traversal.specs.Traversal.{seen}
 use Rattle.traversal.specs.Walk.{placeOf, listingWith, slotsWith, tableWith, wordsOf, recordsWith}
 use Rattle.traversal.proofs.Table.{slot-stays}
 use Rattle.traversal.proofs.Ids.{unseen}
+use Rattle.traversal.proofs.Untouched.{length-records}
 use Rattle.visit.specs.Visit.{Placed, taken}
 
 pub not-not : (b : Bool) → not (not b) ≡ b
@@ -57,10 +58,10 @@ held (x ∷ l) t i p k h = go (eqb i (x .ctxId)) refl (held l (set t (x .ctxId) 
         kept l u i (p .1) (rw same (rw (getD-set-same t (x .ctxId) (x .place) 0 (rw same at k)) (p .0)))
     go false e rest = rest (rw e at h)
 
-pub taken-yes : (t : List ℕ) (i : ℕ) → (getD t i 0 ≡ 0 → ⊥) → taken t i ≡ true
+taken-yes : (t : List ℕ) (i : ℕ) → (getD t i 0 ≡ 0 → ⊥) → taken t i ≡ true
 taken-yes t i h = ap not (ne-eqb _ _ h)
 
-pub taken-no : (t : List ℕ) (i : ℕ) → getD t i 0 ≡ 0 → taken t i ≡ false
+taken-no : (t : List ℕ) (i : ℕ) → getD t i 0 ≡ 0 → taken t i ≡ false
 taken-no t i h = ap not (eq-eqb _ _ h)
 
 pub taken-seen : (slots i : ℕ) (l : List Entry) → Placed l → i < slots → taken (tableWith l slots) i ≡ seen i l
@@ -96,10 +97,6 @@ length-words (e ∷ l) = omega (arith, length-append (entryWords e) (wordsOf l),
 words-one : (e : Entry) → wordsOf (e ∷ []) ≡ entryWords e
 unfolding wordsOf
 words-one e = append-nil (entryWords e)
-
-length-records : (was : List ℕ) (l : List Entry) → length (recordsWith l was) ≡ length was
-unfolding recordsWith
-length-records was l = length-over was 0 (wordsOf (take (length was / wordsEach) l))
 
 pub records-snoc : (was : List ℕ) (l : List Entry) (e : Entry)
     → recordsWith (l ++ (e ∷ [])) was

@@ -5,41 +5,22 @@ use mathlib.Core.Path.{_≡_, refl, sym, _∙_}
 use native.Mathlib.Omega.{arith}
 use lib.ListN.{length, replicate}
 use Rattle.le.specs.Number.{number}
-use Rattle.refusal.specs.declared.Refusal.{Refusal}
-use Rattle.refusal.specs.declared.Check.the-variants as Check
 use Rattle.refusal.specs.Check.{ifPassed}
 use Rattle.open.specs.Format.{meta}
 use Rattle.open.specs.Names as Section
-use Rattle.open.specs.Opening.{field, placeIn, pairs, opening, onOpened}
+use Rattle.open.specs.Opening.{field, placeIn, pairs, onOpened}
 use Rattle.open.specs.Kept.{Sections}
 use Rattle.context.specs.Context.{Targets, targetsOf}
 use Rattle.traversal.specs.declared.Walked.{Walked}
-use Rattle.traversal.specs.declared.Walked.the-variants.{Complete, Refused}
-use Rattle.traversal.specs.Traversal.{Asked, Outcome, refused, Parameters, limited, depthLimit, level, fromRoots, traversal}
-use Rattle.traversal.specs.Walk.{walkOf, walkedOf, Slices, slices, askWith, unmarked, Leaves, itself}
-use Rattle.traversal.proofs.Cut.{cuts-level, truncate-short}
+use Rattle.traversal.specs.declared.Walked.the-variants.{Complete}
+use Rattle.traversal.specs.Traversal.{Asked, Outcome, Parameters, limited, depthLimit, level, fromRoots, traversal}
+use Rattle.traversal.specs.Walk.{walkOf, Slices, slices, askWith, unmarked, Leaves, itself}
+use Rattle.traversal.proofs.Cut.{cuts-level}
 use Rattle.traversal.proofs.Unmarked.{unmarked-walk, unmarked-table, unmarked-mark}
 use Rattle.traversal.proofs.Steps.{rest-end, level-rest}
 use Rattle.walk.specs.State.{Holds, Done, ArrayDoes}
 use Rattle.walk.proofs.Slices.{start}
 use Rattle.walk.proofs.Going.{done-complete}
-
--- nothing is touched where opening refuses
-pub untouched : (file listing table records : List ℕ) (r : Refusal) → opening meta file ≡ Check.Refused r
-    → Leaves itself file (slices listing table records) (Refused r 0) (slices listing table records)
-unfolding onOpened ifPassed traversal walkedOf
-untouched file listing table records r e =
-    let was = slices listing table records in
-    let a = askWith file unmarked was in
-    let none : walkOf a ≡ refused r [] = rw (unmarked-walk file (a .lent), e) (truncate-short (length listing) (refused r []) (omega arith)) in
-    let h = start was (replicate (length table) 0) refl in
-    record {
-      answers = rw none;
-      lists = rw none (h .listed);
-      fills = rw (unmarked-table file (a .lent) table, e);
-      recorded = rw none (h .recorded);
-      marked = sym (unmarked-mark file (a .lent) []);
-    }
 
 module _ (file : List ℕ) {ps : List (List ℕ)} (o : Sections meta file ps) (t : Targets) (et : t ≡ targetsOf file ps)
     (place bytes : ℕ) (ep : place ≡ number 8 file (placeIn ps Section.context + 8)) (eb : bytes ≡ number 8 file (placeIn ps Section.context + 0)) where

@@ -1,15 +1,16 @@
 -- The lent slices as a walk starts, and with one context more.
-use Prim.Native.Nat.{ℕ, zero, suc, _+_, _*_, _/_, _<_}
+use Prim.Native.Nat.{ℕ, _+_, _*_, _/_, _<_}
 use mathlib.Core.List.{List, [], _∷_, _++_, map}
 use mathlib.Core.Path.{_≡_, refl, sym, ap, _∙_}
 use lib.Dec.{ltb}
-use lib.ListN.{length, set, take, replicate, length-append}
+use lib.ListN.{length, set, replicate, length-append}
 use Rattle.refusal.specs.Check.{either}
 use Rattle.buffer.specs.Over.{over}
-use Rattle.buffer.proofs.Laws.{over-none, length-over}
+use Rattle.buffer.proofs.Laws.{length-over}
 use Rattle.context.specs.Entry.{Entry, entryWords, wordsEach}
-use Rattle.traversal.specs.Walk.{placeOf, listingWith, slotsWith, tableWith, wordsOf, recordsWith, Slices, slices}
+use Rattle.traversal.specs.Walk.{placeOf, listingWith, slotsWith, tableWith, Slices, slices}
 use Rattle.traversal.proofs.Table.{slots-append}
+use Rattle.traversal.proofs.Untouched.{none-listed, none-recorded}
 use Rattle.visit.proofs.Slices.{placed-snoc, listing-snoc, records-snoc}
 use Rattle.walk.specs.State.{Holds}
 
@@ -36,15 +37,11 @@ module _ {was : Slices} {l : List Entry} {s : Slices} {n : ℕ} (h : Holds was l
 
 -- where a walk starts
 pub start : (was : Slices) (table : List ℕ) → table ≡ replicate (length (was .table)) 0 → Holds was [] (slices (was .listing) table (was .records)) 0
-unfolding listingWith tableWith slotsWith recordsWith wordsOf
+unfolding tableWith slotsWith
 start was table e = record {
-  listed = sym (over-none (was .listing) 0);
+  listed = sym (none-listed (was .listing) [] refl);
   filled = e;
-  recorded = sym (none (length (was .records) / wordsEach));
+  recorded = sym (none-recorded (was .records) [] refl);
   counted = refl;
   placed = tt;
 }
-  where
-    none : (m : ℕ) → over (was .records) 0 (wordsOf (take m [])) ≡ was .records
-    none zero = over-none (was .records) 0
-    none (suc m) = over-none (was .records) 0

@@ -6,10 +6,10 @@ use Rattle.mark_cases.proofs.changed.Statement.{statement}
 use Rattle.mark_cases.proofs.changed.Tie as tie
 
 abbrev Inv-loop : tie.InvT-loop
-Inv-loop lent n₀ n = n ≤ length lent
+Inv-loop bytes n₀ n = n ≤ length bytes
 
 abbrev μ-loop : tie.MeasureT-loop
-μ-loop lent n₀ n = n
+μ-loop bytes n₀ n = n
 
 pub changed-spec : {M : Type 1} → statement M
 changed-spec =

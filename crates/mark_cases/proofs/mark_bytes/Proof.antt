@@ -6,10 +6,10 @@ use Rattle.mark_cases.proofs.mark_bytes.Statement.{statement}
 use Rattle.mark_cases.proofs.mark_bytes.Tie as tie
 
 abbrev Inv-loop : tie.InvT-loop
-Inv-loop lent n i₀ i = n ≤ length lent
+Inv-loop bytes n i₀ i = n ≤ length bytes
 
 abbrev μ-loop : tie.MeasureT-loop
-μ-loop lent n i₀ i = n - i
+μ-loop bytes n i₀ i = n - i
 
 pub mark-bytes-spec : {M : Type 1} → statement M
 mark-bytes-spec =

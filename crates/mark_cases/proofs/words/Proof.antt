@@ -6,10 +6,10 @@ use Rattle.mark_cases.proofs.words.Statement.{statement}
 use Rattle.mark_cases.proofs.words.Tie as tie
 
 abbrev Inv-loop : tie.InvT-loop
-Inv-loop name lent i₀ i = Unit
+Inv-loop name values i₀ i = Unit
 
 abbrev μ-loop : tie.MeasureT-loop
-μ-loop name lent i₀ i = length lent - i
+μ-loop name values i₀ i = length values - i
 
 pub words-spec : {M : Type 1} → statement M
 words-spec =

@@ -9,16 +9,18 @@ use Rattle.resume.proofs.store_visit.Tie as tie
 
 slice-write-table : tie.Need-slice-write-table
 slice-write-table c =
-    let id = id-read (now (c .before .before .before .args .file)) (c .before .before .before .args .p) (c .load-u32 .result) (c .load-u32 .ensures) in
-    omega (arith, c .before .before .before .pre .1 .0, id)
+    let entry = c .before .before .before .before .before in
+    let id = id-read (now (entry .args .file)) (entry .args .here .p) (c .before .load-u32 .result) (c .before .load-u32 .ensures) in
+    omega (arith, entry .pre .1 .0, id)
 
 returns : tie.Need-returns
 returns c =
-    let id = id-read (now (c .before .before .before .args .file)) (c .before .before .before .args .p) (c .load-u32 .result) (c .load-u32 .ensures) in
+    let entry = c .before .before .before .before .before in
+    let id = id-read (now (entry .args .file)) (entry .args .here .p) (c .before .load-u32 .result) (c .before .load-u32 .ensures) in
     (rw id, refl)
 
 pub store-visit-spec : {M : Type 1} → statement M
 store-visit-spec =
     tie.close
-    (tie.spec (λ c. search needs) (λ c κs. search needs) (λ c. search needs) (λ c. search needs) slice-write-table (λ c. search needs)
-    (λ c. search needs) (λ c. search needs) (λ c. search needs) returns)
+    (tie.spec (λ c. search needs) (λ c κs. search needs) (λ c. search needs) (λ c. search needs) (λ c. search needs) slice-write-table
+    (λ c. search needs) (λ c. search needs) (λ c. search needs) (λ c. search needs) returns)

@@ -18,7 +18,7 @@ visit-check-requires : tie.Need-visit-check-requires
 visit-check-requires c κs =
     let args = c .before .before .before .before .args in
     let pre = c .before .before .before .before .pre in
-    readable (now (args .file)) (args .p) (args .stop) (sym (c .before .context-rule .ensures) ∙ not-false _ (c .if1 .left)) (pre .1)
+    readable (now (args .file)) (args .here .p) (args .here .end) (sym (c .before .context-rule .ensures) ∙ not-false _ (c .if1 .left)) (pre .2)
 
 returns-2 : tie.Need-returns-2
 unfolding visitAnswer rule first ifPassed
@@ -54,4 +54,4 @@ returns-4 c =
 pub visit-answer-spec : {M : Type 1} → statement M
 visit-answer-spec =
     tie.close
-    (tie.spec (λ c κs. search needs) returns visit-check-requires (λ c. search needs) returns-2 (λ c. search needs) returns-3 returns-4)
+    (tie.spec (λ c κs. search needs) returns (λ c. search needs) visit-check-requires (λ c. search needs) returns-2 (λ c. search needs) returns-3 returns-4)

@@ -3,86 +3,88 @@ use Prim.Native.Nat.{ℕ, _≤_}
 use mathlib.Core.Bool.{Bool, true, false, _||_, not, true≢false}
 use mathlib.Core.Path.{_≡_, sym, _∙_}
 use denote.Ref.{now}
+use native.Mathlib.Omega.{arith}
 use borrow.Author.Needs.{needs}
 use borrow.Author.Tests.{leb-true}
 use lib.Dec.{leb}
 use Rattle.open.specs.Opening.{field}
 use Rattle.mark.specs.Mark.{markRoom}
-use Rattle.traversal.specs.Walk.{slices, slicesWithMark}
-use Rattle.resume.proofs.Leaving.{leaves-none, leaves-unasked, leads, leaves-asked}
+use Rattle.traversal.specs.Walk.{Slices, slices, slicesWithMark}
+use Rattle.visit.proofs.Lie.{roots-header}
+use Rattle.resume.specs.State.{marksIn}
+use Rattle.resume.proofs.Leaving.{Walks, leaves-none, leaves-unasked, leads, leaves-asked}
 use Rattle.resume.proofs.walk_opened.Statement.{statement}
 use Rattle.resume.proofs.walk_opened.Tie as tie
 
+-- ---- where the walk has ended
+
+module _ (c : tie.After-marks-in) where
+  abbrev entry : tie.Start
+  entry = c .before .before .before .before .before .before .before .before .before .before .before .before .before .before .before .before .before .before
+
+  abbrev ended : tie.After-walk-in
+  ended = c .before .before .before .before .before .before .before
+
+  abbrev was : Slices
+  was = slicesWithMark (now (entry .args .listing)) (now (entry .args .table)) (now (entry .args .records)) (now (entry .args .new-mark))
+
+  abbrev left : Slices
+  left = slices (ended .walk-in .last .1 .1 .1 .0) (ended .walk-in .last .1 .1 .1 .1 .0) (ended .walk-in .last .1 .1 .1 .1 .1 .0)
+
+  walks : Walks (now (entry .args .file)) (now (entry .args .mark)) (entry .args .asks) was (now (entry .args .sections))
+      (ended .walk-in .result) left (ended .walk-in .last .1 .1 .1 .1 .1 .1 .0)
+  walks = record { opened = entry .pre .0; well = entry .pre .1 .0; roomy = entry .pre .1 .1; done = ended .walk-in .ensures }
+
+  -- the mark is passed
+  passed : (c .marks-in .result ≡ 0 → ⊥) → marksIn (ended .walk-in .result) ≡ 0 → ⊥
+  passed n z = n (c .marks-in .ensures ∙ z)
+
+-- ----
+
 returns : tie.Need-returns
 returns c =
-    let args = c .before .before .before .before .before .before .before .before .before .before .before .before .before .before .before .before .before .before .before .before .before .before .before .before .args in
-    let walk-in = c .before .before .before .before .before .before .before .before .before .before .before .before .before .walk-in in
-    let answer-of = c .answer-of in
-    let pre = c .before .before .before .before .before .before .before .before .before .before .before .before .before .before .before .before .before .before .before .before .before .before .before .before .pre in
-    let marks-in = c .before .before .before .before .before .before .marks-in in
-    let if1 = c .before .before .before .before .before .if1 in
+    let marks = c .before .before .before .before .before .before in
     let clear = c .before .before .before .clear in
-    let was = slicesWithMark (now (args .listing)) (now (args .table)) (now (args .records)) (now (args .new-mark)) in
-    let s = slices (walk-in .last .1 .1 .1 .0) (walk-in .last .1 .1 .1 .1 .0) (walk-in .last .1 .1 .1 .1 .1 .0) in
-    rw (answer-of .ensures)
-    (leaves-none (now (args .file)) (now (args .mark)) (args .asks) was (pre .0) (pre .1 .0) (pre .1 .1) (walk-in .result) s
-    (walk-in .last .1 .1 .1 .1 .1 .1 .0) (walk-in .ensures) (sym (marks-in .ensures) ∙ if1 .taken) (clear .last .0) (clear .ensures))
+    rw (c .answer-of .ensures)
+    (leaves-none (walks marks) (sym (marks .marks-in .ensures) ∙ c .before .before .before .before .before .if1 .taken) (clear .last .0) (clear .ensures))
+
+add-load-u64 : tie.Need-add-load-u64
+add-load-u64 c =
+    let entry = c .before .before .before .before .before .before .before .before .before .before .before .before .before .before .before .before .before .before .before .before .before in
+    omega (arith, roots-header (now (entry .args .file)) (entry .pre .0), entry .good)
+
+load-u64-requires : tie.Need-load-u64-requires
+load-u64-requires c κs =
+    let entry = c .before .before .before .before .before .before .before .before .before .before .before .before .before .before .before .before .before .before .before .before .before in
+    omega (arith, roots-header (now (entry .args .file)) (entry .pre .0))
 
 -- room for a mark, where one is asked for
-roomy : (asks : Bool) (n : ℕ) → asks ≡ true → not asks || leb markRoom n ≡ true → markRoom ≤ n
-roomy true n e h = leb-true markRoom n h
-roomy false n e h = absurd (true≢false (sym e))
+room-asked : (asks : Bool) (n : ℕ) → asks ≡ true → not asks || leb markRoom n ≡ true → markRoom ≤ n
+room-asked true n e h = leb-true markRoom n h
+room-asked false n e h = absurd (true≢false (sym e))
 
 put-mark-requires : tie.Need-put-mark-requires
 unfolding field
 put-mark-requires c κs =
-    let args = c .before .before .before .before .before .before .before .before .before .before .before .before .before .before .before .before .before .before .before .before .before .before .before .before .args in
-    let walk-in = c .before .before .before .before .before .before .before .before .before .before .before .before .before .walk-in in
-    let pre = c .before .before .before .before .before .before .before .before .before .before .before .before .before .before .before .before .before .before .before .before .before .before .before .before .pre in
-    let if1 = c .before .before .before .before .before .if1 in
-    let marks-in = c .before .before .before .before .before .before .marks-in in
-    let shared-slice-known = c .before .before .before .before .before .before .before .before .before .before .before .before .before .before .before .before .before .before .before .before .before .before .before .shared-slice-known in
-    let u64-at = c .before .before .u64-at in
-    let if2 = c .before .before .before .before .if2 in
-    let was = slicesWithMark (now (args .listing)) (now (args .table)) (now (args .records)) (now (args .new-mark)) in
-    let s = slices (walk-in .last .1 .1 .1 .0) (walk-in .last .1 .1 .1 .1 .0) (walk-in .last .1 .1 .1 .1 .1 .0) in
-    let there = leads (now (args .file)) (now (args .mark)) (args .asks) was (pre .0) (pre .1 .0) (pre .1 .1) (walk-in .result) s
-    (walk-in .last .1 .1 .1 .1 .1 .1 .0) (walk-in .ensures) (λ z. if1 .left (marks-in .ensures ∙ z)) (λ k. shared-slice-known .given k .fits) in
-    (rw (u64-at .ensures) there, roomy (args .asks) _ (if2 .taken) (pre .1 .1))
+    let marks = c .before .before .before .before .before .before in
+    let octets = c .before .before .before .before .before .before .before .before .before .before .before .before .before .before .before .before .before .before .before .before .before .before .before .shared-slice-known in
+    let there = leads (walks marks) (passed marks (c .before .before .before .before .before .if1 .left)) (λ k. octets .given k .fits) in
+    (rw (c .before .before .load-u64 .ensures) there, room-asked (entry marks .args .asks) _ (c .before .before .before .before .if2 .taken) (walks marks .roomy))
 
 returns-2 : tie.Need-returns-2
 unfolding field
 returns-2 c =
-    let args = c .before .before .before .before .before .before .before .before .before .before .before .before .before .before .before .before .before .before .before .before .before .before .before .before .before .before .before .before .args in
-    let walk-in = c .before .before .before .before .before .before .before .before .before .before .before .before .before .before .before .before .before .walk-in in
-    let answer-of2 = c .answer-of2 in
-    let pre = c .before .before .before .before .before .before .before .before .before .before .before .before .before .before .before .before .before .before .before .before .before .before .before .before .before .before .before .before .pre in
-    let if1 = c .before .before .before .before .before .before .before .before .before .if1 in
-    let marks-in = c .before .before .before .before .before .before .before .before .before .before .marks-in in
-    let shared-slice-known = c .before .before .before .before .before .before .before .before .before .before .before .before .before .before .before .before .before .before .before .before .before .before .before .before .before .before .before .shared-slice-known in
-    let put-mark = c .before .before .before .put-mark in
-    let if2 = c .before .before .before .before .before .before .before .before .if2 in
-    let u64-at = c .before .before .before .before .before .before .u64-at in
-    let was = slicesWithMark (now (args .listing)) (now (args .table)) (now (args .records)) (now (args .new-mark)) in
-    let s = slices (walk-in .last .1 .1 .1 .0) (walk-in .last .1 .1 .1 .1 .0) (walk-in .last .1 .1 .1 .1 .1 .0) in
-    rw (answer-of2 .ensures)
-    (leaves-asked (now (args .file)) (now (args .mark)) (args .asks) was (pre .0) (pre .1 .0) (pre .1 .1) (walk-in .result) s
-    (walk-in .last .1 .1 .1 .1 .1 .1 .0) (walk-in .ensures) (λ z. if1 .left (marks-in .ensures ∙ z)) (λ k. shared-slice-known .given k .fits)
-    (put-mark .last .1 .1 .1 .0) (if2 .taken) (rw (u64-at .ensures) at (put-mark .ensures)))
+    let marks = c .before .before .before .before .before .before .before .before .before .before in
+    let octets = c .before .before .before .before .before .before .before .before .before .before .before .before .before .before .before .before .before .before .before .before .before .before .before .before .before .before .before .shared-slice-known in
+    let put = c .before .before .before .put-mark in
+    rw (c .answer-of2 .ensures)
+    (leaves-asked (walks marks) (passed marks (c .before .before .before .before .before .before .before .before .before .if1 .left)) (λ k. octets .given k .fits) (put .last .1 .1 .1 .0) (c .before .before .before .before .before .before .before .before .if2 .taken)
+    (rw (c .before .before .before .before .before .before .load-u64 .ensures) at (put .ensures)))
 
 returns-3 : tie.Need-returns-3
 returns-3 c =
-    let args = c .before .before .before .before .before .before .before .before .before .before .before .before .before .before .before .before .before .before .before .before .before .args in
-    let walk-in = c .before .before .before .before .before .before .before .before .before .before .walk-in in
-    let answer-of3 = c .answer-of3 in
-    let pre = c .before .before .before .before .before .before .before .before .before .before .before .before .before .before .before .before .before .before .before .before .before .pre in
-    let if1 = c .before .before .if1 in
-    let marks-in = c .before .before .before .marks-in in
-    let if2 = c .before .if2 in
-    let was = slicesWithMark (now (args .listing)) (now (args .table)) (now (args .records)) (now (args .new-mark)) in
-    let s = slices (walk-in .last .1 .1 .1 .0) (walk-in .last .1 .1 .1 .1 .0) (walk-in .last .1 .1 .1 .1 .1 .0) in
-    rw (answer-of3 .ensures) (leaves-unasked (now (args .file)) (now (args .mark)) (args .asks) was (pre .0) (pre .1 .0) (pre .1 .1) (walk-in .result) s
-    (walk-in .last .1 .1 .1 .1 .1 .1 .0) (walk-in .ensures) (λ z. if1 .left (marks-in .ensures ∙ z)) (if2 .left))
+    let marks = c .before .before .before in
+    rw (c .answer-of3 .ensures) (leaves-unasked (walks marks) (passed marks (c .before .before .if1 .left)) (c .before .if2 .left))
 
 pub walk-opened-spec : {M : Type 1} → statement M
 walk-opened-spec =
@@ -98,7 +100,8 @@ walk-opened-spec =
     returns
     (λ c. search needs)
     (λ c. search needs)
-    (λ c κs. search needs)
+    add-load-u64
+    load-u64-requires
     put-mark-requires
     (λ c κs. search needs)
     (λ c. search needs)
