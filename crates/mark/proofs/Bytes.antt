@@ -24,11 +24,11 @@ use Rattle.seq.specs.Lists.{Below}
 use Rattle.buffer.specs.Over.{over}
 use Rattle.put.proofs.Stands.{stands-here}
 use Rattle.mark.specs.Mark.{markKind, deepest, markSize, markRoom, numberFields, headFields, encode, Encodable}
-use Rattle.mark.specs.Mark.{WellFormed, wellFormed, Decoded, named, malformed, numbersAt, decode, isNamed, pathIn}
+use Rattle.mark.specs.Mark.{WellFormedMark, wellFormed, Decoded, named, malformed, numbersAt, decode, isNamed, pathIn}
 
 -- ---- what is well-formed
 
-well-formed-tested : (m : List ℕ) → (wellFormed m ≡ true) ↔ WellFormed m
+well-formed-tested : (m : List ℕ) → (wellFormed m ≡ true) ↔ WellFormedMark m
 unfolding wellFormed
 well-formed-tested m =
     let depth = number 1 m 4 in
@@ -61,19 +61,19 @@ decode-some [] h = absurd (not-suc-le-zero h)
 decode-some (b ∷ bs) h = refl
 
 -- some bytes that name a path are well-formed, and the path is that of their numbers
-named-well : (m path : List ℕ) → 0 < length m → decode m ≡ named path → WellFormed m × (path ≡ numbersOf m)
+named-well : (m path : List ℕ) → 0 < length m → decode m ≡ named path → WellFormedMark m × (path ≡ numbersOf m)
 unfolding either
 named-well m path h d = go (wellFormed m) refl (sym (decode-some m h) ∙ d)
   where
-    go : (b : Bool) → wellFormed m ≡ b → either b (named (numbersOf m)) malformed ≡ named path → WellFormed m × (path ≡ numbersOf m)
+    go : (b : Bool) → wellFormed m ≡ b → either b (named (numbersOf m)) malformed ≡ named path → WellFormedMark m × (path ≡ numbersOf m)
     go true e k = (well-formed-tested m .0 e, cc)
     go false e k = absurd (let z : _≡_ {A = ℕ} 0 1 = cc in omega arith)
 
-well-named : (m : List ℕ) → 0 < length m → WellFormed m → decode m ≡ named (numbersOf m)
+well-named : (m : List ℕ) → 0 < length m → WellFormedMark m → decode m ≡ named (numbersOf m)
 unfolding either
 well-named m h w = decode-some m h ∙ rw (well-formed-tested m .1 w)
 
-pub malformed-iff : (m : List ℕ) → (decode m ≡ malformed) ↔ ((0 < length m) × (WellFormed m → ⊥))
+pub malformed-iff : (m : List ℕ) → (decode m ≡ malformed) ↔ ((0 < length m) × (WellFormedMark m → ⊥))
 unfolding either
 malformed-iff [] = (
   λ e. absurd (let z : named [] ≡ malformed = sym (decode-none [] refl) ∙ e in let y : _≡_ {A = ℕ} 0 1 = cc in omega arith),
@@ -85,7 +85,7 @@ malformed-iff (b ∷ bs) =
       λ h. decode-some m (omega arith) ∙ go (wellFormed m) refl (h .1),
     )
   where
-    go : (t : Bool) → wellFormed (b ∷ bs) ≡ t → (WellFormed (b ∷ bs) → ⊥) → either t (named (numbersOf (b ∷ bs))) malformed ≡ malformed
+    go : (t : Bool) → wellFormed (b ∷ bs) ≡ t → (WellFormedMark (b ∷ bs) → ⊥) → either t (named (numbersOf (b ∷ bs))) malformed ≡ malformed
     go true e f = absurd (f (well-formed-tested (b ∷ bs) .0 e))
     go false e f = refl
 
@@ -95,7 +95,7 @@ is-named (named path) h = refl
 is-named malformed h = absurd (true≢false (sym h))
 
 -- what holds of no levels, and of a well-formed mark's, holds of any path that bytes give
-path-all : (P : List ℕ → Type 0) (m : List ℕ) → P [] → (WellFormed m → P (numbersOf m)) → P (pathIn (decode m))
+path-all : (P : List ℕ → Type 0) (m : List ℕ) → P [] → (WellFormedMark m → P (numbersOf m)) → P (pathIn (decode m))
 unfolding decode either pathIn
 path-all P [] none some = none
 path-all P (b ∷ bs) none some = go (wellFormed (b ∷ bs)) refl
@@ -199,7 +199,7 @@ module _ (path : List ℕ) where
   unfolding encode
   encoded-depth shallow = field-at fs 2 (start (fields fs)) (omega arith) (omega arith)
 
-  encoded-well : length path ≤ 200 → WellFormed (encode path)
+  encoded-well : length path ≤ 200 → WellFormedMark (encode path)
   unfolding encode
   encoded-well shallow =
       let size = size-there (start (encode path)) shallow in

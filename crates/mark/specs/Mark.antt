@@ -46,7 +46,7 @@ pub record Encodable (path : List ℕ) : Type 0 where
 -- ---- what bytes say
 
 -- "Malformed means a length other than that of the bytes given or 5 + 4 × depth, an unknown kind, or a depth above 200."
-pub record WellFormed (m : List ℕ) : Type 0 where
+pub record WellFormedMark (m : List ℕ) : Type 0 where
   pub given : number 2 m 0 ≡ length m
   pub by-depth : number 2 m 0 ≡ 5 + 4 * number 1 m 4
   pub known : number 2 m 2 ≡ 1

@@ -31,7 +31,7 @@ use Rattle.traversal.proofs.From.{from-passed, from-unpassed, list-from}
 use Rattle.traversal.proofs.Passing.{marks-passed, marks-unpassed, after-length}
 use Rattle.traversal.proofs.Places.{last-all}
 use Rattle.traversal.proofs.Small.{visited-encodable}
-use Rattle.traversal.proofs.Untouched.{not-begun}
+use Rattle.traversal.proofs.Untouched.{refused-untouched}
 use Rattle.traversal.proofs.Visited.{VisitedBy, visited}
 use Rattle.resume.specs.Way.{Leads, MarkPut}
 use Rattle.resume.specs.State.{countedEnd, Ended, AllDone, marksIn, answerOf}
@@ -92,23 +92,23 @@ module _ (file : List ℕ) (m : Marks) (was : Slices) where
   room-passed h = rw h
 
   pub no-room : m .asks && ltb (length (was .mark)) markRoom ≡ true → LeavesFrom itself file m was (Refused No.Room 0) was
-  no-room h = not-begun file m was No.Room (room-refused (room-broken (m .asks) (length (was .mark)) h))
+  no-room h = refused-untouched file m was No.Room (room-refused (room-broken (m .asks) (length (was .mark)) h))
 
   pub refused-by : (r : Refusal) → m .asks && ltb (length (was .mark)) markRoom ≡ false
       → first (opening meta file) (rule (isNamed (decode (m .given))) No.Mark) ≡ Check.Refused r → LeavesFrom itself file m was (Refused r 0) was
-  refused-by r h e = not-begun file m was r (room-passed (room-kept (m .asks) (length (was .mark)) h) ∙ e)
+  refused-by r h e = refused-untouched file m was r (room-passed (room-kept (m .asks) (length (was .mark)) h) ∙ e)
 
 -- ---- by what was visited
 
 -- a walk of an opened file from a well-formed mark, with room for a new one where it is asked for
-pub record Walks (file mark : List ℕ) (asks : Bool) (was : Slices) (ps : List (List ℕ)) (w : Walked) (s : Slices) (way : List ℕ) : Type 0 where
+pub record Walking (file mark : List ℕ) (asks : Bool) (was : Slices) (ps : List (List ℕ)) (w : Walked) (s : Slices) (way : List ℕ) : Type 0 where
   pub opened : Sections meta file ps
   pub well : isNamed (decode mark) ≡ true
   pub roomy : not asks || leb markRoom (length (was .mark)) ≡ true
   pub done : AllDone file ps (pathIn (decode mark)) (slices (was .listing) (was .table) (was .records)) w s way
 
 module _ {file mark : List ℕ} {asks : Bool} {was : Slices} {ps : List (List ℕ)} {w : Walked} {s : Slices} {way : List ℕ}
-    (v : Walks file mark asks was ps w s way) where
+    (v : Walking file mark asks was ps w s way) where
   abbrev q : Asked
   q = askWith file (marksWith mark asks) was
 

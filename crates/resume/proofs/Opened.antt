@@ -63,20 +63,20 @@ empty-roots file t path was place bytes table e m n k way z h ew =
     })
 
 -- what is read of an opened file's roots, and the table cleared
-pub record Roots (file : List ℕ) (was : Slices) (ps : List (List ℕ)) (t : Targets) (place bytes : ℕ) (table : List ℕ) : Type 0 where
+pub record RootsRead (file : List ℕ) (was : Slices) (ps : List (List ℕ)) (t : Targets) (place bytes : ℕ) (table : List ℕ) : Type 0 where
   pub opened : Sections meta file ps
-  pub leads-to : t ≡ targetsOf file ps
-  pub stand-at : place ≡ number 8 file (placeIn ps Section.context + 8)
-  pub take : bytes ≡ number 8 file (placeIn ps Section.context)
+  pub targets-are : t ≡ targetsOf file ps
+  pub place-is : place ≡ number 8 file (placeIn ps Section.context + 8)
+  pub size-is : bytes ≡ number 8 file (placeIn ps Section.context)
   pub clear : table ≡ replicate (length (was .table)) 0
 
 module _ {file : List ℕ} {was : Slices} {ps : List (List ℕ)} {t : Targets} {place bytes : ℕ} {table : List ℕ}
-    (z : Roots file was ps t place bytes table) where
-  take-0 : bytes ≡ number 8 file (placeIn ps Section.context + 0)
-  take-0 = rw (add-zero (placeIn ps Section.context)) (z .take)
+    (z : RootsRead file was ps t place bytes table) where
+  size-is-0 : bytes ≡ number 8 file (placeIn ps Section.context + 0)
+  size-is-0 = rw (add-zero (placeIn ps Section.context)) (z .size-is)
 
   pub roots-inside : (bytes ≡ 0 → ⊥) → (0 < place) × (place + bytes ≤ length file) × (t .at + t .size ≤ length file)
-  roots-inside n = roots-lie file (z .opened) t (z .leads-to) place bytes (z .stand-at) take-0 (omega (arith, n))
+  roots-inside n = roots-lie file (z .opened) t (z .targets-are) place bytes (z .place-is) size-is-0 (omega (arith, n))
 
   abbrev cleared : Slices
   cleared = slices (was .listing) table (was .records)
@@ -92,7 +92,7 @@ module _ {file : List ℕ} {was : Slices} {ps : List (List ℕ)} {t : Targets} {
       → AllDone file ps path was r s way
   unfolding fromRoots field targetsOf
   from-roots path r s way d m n =
-      rw (← z .stand-at, ← take-0, ← z .leads-to) (as-long file t path was place (place + bytes) r s way table long d m n)
+      rw (← z .place-is, ← size-is-0, ← z .targets-are) (as-long file t path was place (place + bytes) r s way table long d m n)
 
   pub no-roots : (path : List ℕ) (k : ℕ) (way : List ℕ) → bytes ≡ 0 → k ≡ either (eqb (length path) 0) 1 0 → way ≡ replicate 201 0
       → AllDone file ps path was (Complete k) cleared way

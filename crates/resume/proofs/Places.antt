@@ -48,11 +48,6 @@ startBelow file start [] = start
 startBelow file start (i ∷ path) = startBelow file (field file (siblingPlace file start i) childrenPlace) path
 
 module _ (file : List ℕ) where
-  pub length-places : (start : ℕ) (path : List ℕ) → length (placesOn file start path) ≡ length path
-  unfolding placesOn
-  length-places start [] = refl
-  length-places start (i ∷ path) = ap suc (length-places (field file (siblingPlace file start i) childrenPlace) path)
-
   pub place-at : (start : ℕ) (path : List ℕ) (k : ℕ) → k < length path
       → getD (placesOn file start path) k 0 ≡ siblingPlace file (startBelow file start (take k path)) (getD path k 0)
   unfolding placesOn

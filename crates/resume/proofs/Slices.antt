@@ -18,7 +18,7 @@ use Rattle.traversal.specs.Walk.{placeOf, listingWith, slotsWith, tableWith, Sl
 use Rattle.traversal.proofs.Keeps.{snoc}
 use Rattle.traversal.proofs.Passing.{marks-start, marks-more, after-more, after-length, marks-found, marks-still, after-none, unpassed-after}
 use Rattle.traversal.proofs.Table.{slots-append, length-table}
-use Rattle.traversal.proofs.Untouched.{none-listed, none-recorded, length-records}
+use Rattle.traversal.proofs.Untouched.{nothing-listed, nothing-recorded, length-records}
 use Rattle.visit.proofs.Slices.{placed-snoc, listing-snoc, records-snoc}
 use Rattle.resume.specs.State.{Holds, listingMore, RecordMore}
 
@@ -52,9 +52,9 @@ module _ (path : List ℕ) (was : Slices) where
       → Holds path was [] (slices (was .listing) table (was .records)) (either (eqb (length path) 0) 1 0)
   unfolding tableWith slotsWith
   start table e = record {
-    listed = sym (none-listed (was .listing) (afterMark path []) start-after);
+    listed = sym (nothing-listed (was .listing) (afterMark path []) start-after);
     filled = e;
-    recorded = sym (none-recorded (was .records) (afterMark path []) start-after);
+    recorded = sym (nothing-recorded (was .records) (afterMark path []) start-after);
     counted = sym (marks-start path ∙ ap (λ (b : Bool). either b 1 0) (root-mark path));
     placed = tt;
   }
@@ -90,10 +90,10 @@ module _ (path : List ℕ) (was : Slices) (l : List Entry) (e : Entry) where
       let before = unpassed-after path l z in
       let behind = after-none path l e z in
       record {
-        listed = h .listed ∙ none-listed (was .listing) (afterMark path l) before ∙ sym (none-listed (was .listing) (afterMark path (snoc l e)) behind);
+        listed = h .listed ∙ nothing-listed (was .listing) (afterMark path l) before ∙ sym (nothing-listed (was .listing) (afterMark path (snoc l e)) behind);
         filled = filled-more (s .table) (h .filled);
-        recorded = r ∙ h .recorded ∙ none-recorded (was .records) (afterMark path l) before
-            ∙ sym (none-recorded (was .records) (afterMark path (snoc l e)) behind);
+        recorded = r ∙ h .recorded ∙ nothing-recorded (was .records) (afterMark path l) before
+            ∙ sym (nothing-recorded (was .records) (afterMark path (snoc l e)) behind);
         counted = marks-by found (f refl) z;
         placed = placed-snoc l e (h .placed) y;
       }

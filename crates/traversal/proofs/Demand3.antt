@@ -24,7 +24,7 @@ use Rattle.traversal.specs.Demand3.{Call, asked, listedNumber, listedWor
 use Rattle.traversal.proofs.Begins.{take-own}
 use Rattle.traversal.proofs.Cut.{truncate-short, truncate-long, list-truncate}
 use Rattle.traversal.proofs.Grows.{isCut, never-cut}
-use Rattle.traversal.proofs.Untouched.{not-begun}
+use Rattle.traversal.proofs.Untouched.{refused-untouched}
 use Rattle.traversal.proofs.Trail.{trail-from-same}
 use Rattle.traversal.proofs.MoreRoom.{entries-begin, entries-same}
 use Rattle.traversal.proofs.Table.{length-table}
@@ -173,7 +173,7 @@ module _ {file : List ℕ} (c : Call file) where
 
   nothing-changed : (r : Refusal) → walkCheck a ≡ Check.Refused r → Untouched c r
   nothing-changed r e =
-      let left = not-begun file (c .marks) (c .was) r e in (
+      let left = refused-untouched file (c .marks) (c .was) r e in (
         c .promised .answers ∙ sym (left .answers),
         c .promised .lists ∙ sym (left .lists),
         c .promised .fills ∙ sym (left .fills),

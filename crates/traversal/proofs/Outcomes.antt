@@ -33,7 +33,7 @@ use Rattle.traversal.specs.Demand3.{Call, asked, listedNumber, trail, li
 use Rattle.traversal.specs.Joined.{OnTrail, Roomy, Begun, Cleared, contexts, MarkFails, fitting, ListsAndFills, Outcomes}
 use Rattle.traversal.proofs.From.{list-with, with-own, from-passed, from-unpassed, root-skipped, root-passed, root-after}
 use Rattle.traversal.proofs.Keeps.{snoc}
-use Rattle.traversal.proofs.Untouched.{none-recorded}
+use Rattle.traversal.proofs.Untouched.{nothing-recorded}
 use Rattle.traversal.proofs.Passing.{passed-append, marks-passed, marks-unpassed, marks-found}
 use Rattle.traversal.proofs.Preorder.{paths-distinct}
 use Rattle.traversal.proofs.Cut.{truncate-short}
@@ -133,7 +133,7 @@ module _ {file : List ℕ} (c : Call file) where
           answers,
           rw none at (one .beyond),
           filled c check ∙ rw (reached-unpassed a check lost),
-          c .promised .recorded ∙ none-recorded (c .was .records) (listOf (walkOf a)) (ap listOf walk-end),
+          c .promised .recorded ∙ nothing-recorded (c .was .records) (listOf (walkOf a)) (ap listOf walk-end),
           c .promised .marked ∙ rw (mark-passed a check ∙ lost, and-false),
         )
 
@@ -216,9 +216,9 @@ module _ {file : List ℕ} (c : Call file) where
         → take (length (c .marks .given)) (c .now .mark) ≡ c .marks .given
     unfolding lastPath
     stands-again e none some octets =
-        let none-listed : listed c ≡ [] = ap (λ (n : ℕ). take n (trail c)) none in
+        let empty : listed c ≡ [] = ap (λ (n : ℕ). take n (trail c)) none in
         let same : encode (lastPath path (listed c)) ≡ c .marks .given =
-        ap (λ (l : List Entry). encode (lastPath path l)) none-listed ∙ encode-decode (c .marks .given) octets path some (b .names) in
+        ap (λ (l : List Entry). encode (lastPath path l)) empty ∙ encode-decode (c .marks .given) octets path some (b .names) in
         rw same at (stands-new e .0)
 
   -- ---- 17 and 18 for nothing else

@@ -87,7 +87,7 @@ pub contexts-shallow : (a : Asked) → All (λ e. length (e .path) ≤ depthLimi
 contexts-shallow a = all-imp (λ e h. h .depth) (listOf (traversal a)) (counts-traversal a .1 .1 .paths)
 
 pub record Small (l : List Entry) : Type 0 where
-  ids-small : Below 4294967296 (map idOf l)
+  pub ids-small : Below 4294967296 (map idOf l)
   pub few : length l ≤ 4294967296
   pub encodable : All (λ e. Encodable (e .path)) l
 

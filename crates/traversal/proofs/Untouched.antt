@@ -16,28 +16,28 @@ use Rattle.traversal.specs.Traversal.{Marks, refused}
 use Rattle.traversal.specs.Walk.{walkCheck, trailFrom, walkOf, markPassed, walkedOf, listingWith, wordsOf, recordsWith, tableAfter, markAfter, Slices, askWith, LeavesFrom, itself}
 use Rattle.traversal.proofs.Cut.{truncate-short}
 
-pub none-listed : (was : List ℕ) (l : List Entry) → l ≡ [] → listingWith l was ≡ was
+pub nothing-listed : (was : List ℕ) (l : List Entry) → l ≡ [] → listingWith l was ≡ was
 unfolding listingWith
-none-listed was l e = rw e (over-none was 0)
+nothing-listed was l e = rw e (over-none was 0)
 
-pub none-recorded : (was : List ℕ) (l : List Entry) → l ≡ [] → recordsWith l was ≡ was
+pub nothing-recorded : (was : List ℕ) (l : List Entry) → l ≡ [] → recordsWith l was ≡ was
 unfolding recordsWith wordsOf
-none-recorded was l e = rw (e, take-nil) (over-none was 0)
+nothing-recorded was l e = rw (e, take-nil) (over-none was 0)
 
 -- however many are
 pub length-records : (was : List ℕ) (l : List Entry) → length (recordsWith l was) ≡ length was
 unfolding recordsWith
 length-records was l = length-over was 0 (wordsOf (take (length was / wordsEach) l))
 
-pub not-begun : (file : List ℕ) (m : Marks) (was : Slices) (r : Refusal) → walkCheck (askWith file m was) ≡ Check.Refused r
+pub refused-untouched : (file : List ℕ) (m : Marks) (was : Slices) (r : Refusal) → walkCheck (askWith file m was) ≡ Check.Refused r
     → LeavesFrom itself file m was (Refused r 0) was
 unfolding walkOf trailFrom tableAfter markAfter markPassed ifPassed walkedOf either
-not-begun file m was r e =
+refused-untouched file m was r e =
     let none : walkOf (askWith file m was) ≡ refused r [] = rw e (truncate-short (length (was .listing)) (refused r []) (omega arith)) in
     record {
       answers = rw none;
-      lists = rw none (sym (none-listed (was .listing) [] refl));
+      lists = rw none (sym (nothing-listed (was .listing) [] refl));
       fills = rw e;
-      recorded = rw none (sym (none-recorded (was .records) [] refl));
+      recorded = rw none (sym (nothing-recorded (was .records) [] refl));
       marked = rw (e, and-false (m .asks));
     }

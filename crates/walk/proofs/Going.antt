@@ -89,8 +89,8 @@ module _ (file : List ℕ) (t : Targets) (depth at stop : ℕ) (was : Slices) (l
       visited : Done was (here (g .i) p (g .so)) r s'
       visited = does was (g .so) parent (ups ++ (g .i ∷ [])) (omega (arith, length-append ups (g .i ∷ []))) (g .holds)
 
-      pub going-on : (q m : ℕ) → r ≡ Complete m → q ≡ extent file p → Going s' (p + q) m
-      going-on q m e z = rw z (go-by (suc (g .i)) (p + extent file p) m (here (g .i) p (g .so)) s' turned (rw e at visited))
+      pub going-next : (q m : ℕ) → r ≡ Complete m → q ≡ extent file p → Going s' (p + q) m
+      going-next q m e z = rw z (go-by (suc (g .i)) (p + extent file p) m (here (g .i) p (g .so)) s' turned (rw e at visited))
 
       pub going-stop : ((m : ℕ) → r ≡ Complete m → ⊥) → Done was all r s'
       going-stop z = stop-by (here (g .i) p (g .so)) (next (g .i) p) r s' turned visited z

@@ -10,7 +10,7 @@ use Rattle.buffer.proofs.Laws.{length-over}
 use Rattle.context.specs.Entry.{Entry, entryWords, wordsEach}
 use Rattle.traversal.specs.Walk.{placeOf, listingWith, slotsWith, tableWith, Slices, slices}
 use Rattle.traversal.proofs.Table.{slots-append}
-use Rattle.traversal.proofs.Untouched.{none-listed, none-recorded}
+use Rattle.traversal.proofs.Untouched.{nothing-listed, nothing-recorded}
 use Rattle.visit.proofs.Slices.{placed-snoc, listing-snoc, records-snoc}
 use Rattle.walk.specs.State.{Holds}
 
@@ -39,9 +39,9 @@ module _ {was : Slices} {l : List Entry} {s : Slices} {n : ℕ} (h : Holds was l
 pub start : (was : Slices) (table : List ℕ) → table ≡ replicate (length (was .table)) 0 → Holds was [] (slices (was .listing) table (was .records)) 0
 unfolding tableWith slotsWith
 start was table e = record {
-  listed = sym (none-listed (was .listing) [] refl);
+  listed = sym (nothing-listed (was .listing) [] refl);
   filled = e;
-  recorded = sym (none-recorded (was .records) [] refl);
+  recorded = sym (nothing-recorded (was .records) [] refl);
   counted = refl;
   placed = tt;
 }

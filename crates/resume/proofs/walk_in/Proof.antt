@@ -8,7 +8,7 @@ use Rattle.context.specs.Sound.{targetsIn}
 use Rattle.mark.specs.Mark.{decode, pathIn}
 use Rattle.traversal.specs.Walk.{Slices, slices}
 use Rattle.visit.proofs.Lie.{roots-header}
-use Rattle.resume.proofs.Opened.{Roots, roots-inside, clear-again, no-roots, from-roots}
+use Rattle.resume.proofs.Opened.{RootsRead, roots-inside, clear-again, no-roots, from-roots}
 use Rattle.resume.proofs.walk_in.Statement.{statement}
 use Rattle.resume.proofs.walk_in.Tie as tie
 
@@ -39,13 +39,13 @@ module _ (c : tie.After-clear) where
   abbrev was : Slices
   was = slices (now (entry .args .listing)) (now (entry .args .table)) (now (entry .args .records))
 
-  roots : Roots (now (entry .args .file)) was (now (entry .args .sections)) (targetsIn (c .before .before .before .before .before .targets-of .result))
+  roots : RootsRead (now (entry .args .file)) was (now (entry .args .sections)) (targetsIn (c .before .before .before .before .before .targets-of .result))
       (c .before .before .load-u642 .result) (c .before .before .before .load-u64 .result) (c .clear .last .0)
   roots = record {
     opened = entry .pre .0;
-    leads-to = c .before .before .before .before .before .targets-of .ensures;
-    stand-at = c .before .before .load-u642 .ensures;
-    take = c .before .before .before .load-u64 .ensures;
+    targets-are = c .before .before .before .before .before .targets-of .ensures;
+    place-is = c .before .before .load-u642 .ensures;
+    size-is = c .before .before .before .load-u64 .ensures;
     clear = c .clear .ensures;
   }
 

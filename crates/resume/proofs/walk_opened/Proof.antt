@@ -12,7 +12,7 @@ use Rattle.mark.specs.Mark.{markRoom}
 use Rattle.traversal.specs.Walk.{Slices, slices, slicesWithMark}
 use Rattle.visit.proofs.Lie.{roots-header}
 use Rattle.resume.specs.State.{marksIn}
-use Rattle.resume.proofs.Leaving.{Walks, leaves-none, leaves-unasked, leads, leaves-asked}
+use Rattle.resume.proofs.Leaving.{Walking, leaves-none, leaves-unasked, leads, leaves-asked}
 use Rattle.resume.proofs.walk_opened.Statement.{statement}
 use Rattle.resume.proofs.walk_opened.Tie as tie
 
@@ -31,9 +31,9 @@ module _ (c : tie.After-marks-in) where
   abbrev left : Slices
   left = slices (ended .walk-in .last .1 .1 .1 .0) (ended .walk-in .last .1 .1 .1 .1 .0) (ended .walk-in .last .1 .1 .1 .1 .1 .0)
 
-  walks : Walks (now (entry .args .file)) (now (entry .args .mark)) (entry .args .asks) was (now (entry .args .sections))
+  walking : Walking (now (entry .args .file)) (now (entry .args .mark)) (entry .args .asks) was (now (entry .args .sections))
       (ended .walk-in .result) left (ended .walk-in .last .1 .1 .1 .1 .1 .1 .0)
-  walks = record { opened = entry .pre .0; well = entry .pre .1 .0; roomy = entry .pre .1 .1; done = ended .walk-in .ensures }
+  walking = record { opened = entry .pre .0; well = entry .pre .1 .0; roomy = entry .pre .1 .1; done = ended .walk-in .ensures }
 
   -- the mark is passed
   passed : (c .marks-in .result ≡ 0 → ⊥) → marksIn (ended .walk-in .result) ≡ 0 → ⊥
@@ -46,7 +46,7 @@ returns c =
     let marks = c .before .before .before .before .before .before in
     let clear = c .before .before .before .clear in
     rw (c .answer-of .ensures)
-    (leaves-none (walks marks) (sym (marks .marks-in .ensures) ∙ c .before .before .before .before .before .if1 .taken) (clear .last .0) (clear .ensures))
+    (leaves-none (walking marks) (sym (marks .marks-in .ensures) ∙ c .before .before .before .before .before .if1 .taken) (clear .last .0) (clear .ensures))
 
 add-load-u64 : tie.Need-add-load-u64
 add-load-u64 c =
@@ -68,8 +68,8 @@ unfolding field
 put-mark-requires c κs =
     let marks = c .before .before .before .before .before .before in
     let octets = c .before .before .before .before .before .before .before .before .before .before .before .before .before .before .before .before .before .before .before .before .before .before .before .shared-slice-known in
-    let there = leads (walks marks) (passed marks (c .before .before .before .before .before .if1 .left)) (λ k. octets .given k .fits) in
-    (rw (c .before .before .load-u64 .ensures) there, room-asked (entry marks .args .asks) _ (c .before .before .before .before .if2 .taken) (walks marks .roomy))
+    let there = leads (walking marks) (passed marks (c .before .before .before .before .before .if1 .left)) (λ k. octets .given k .fits) in
+    (rw (c .before .before .load-u64 .ensures) there, room-asked (entry marks .args .asks) _ (c .before .before .before .before .if2 .taken) (walking marks .roomy))
 
 returns-2 : tie.Need-returns-2
 unfolding field
@@ -78,13 +78,13 @@ returns-2 c =
     let octets = c .before .before .before .before .before .before .before .before .before .before .before .before .before .before .before .before .before .before .before .before .before .before .before .before .before .before .before .shared-slice-known in
     let put = c .before .before .before .put-mark in
     rw (c .answer-of2 .ensures)
-    (leaves-asked (walks marks) (passed marks (c .before .before .before .before .before .before .before .before .before .if1 .left)) (λ k. octets .given k .fits) (put .last .1 .1 .1 .0) (c .before .before .before .before .before .before .before .before .if2 .taken)
+    (leaves-asked (walking marks) (passed marks (c .before .before .before .before .before .before .before .before .before .if1 .left)) (λ k. octets .given k .fits) (put .last .1 .1 .1 .0) (c .before .before .before .before .before .before .before .before .if2 .taken)
     (rw (c .before .before .before .before .before .before .load-u64 .ensures) at (put .ensures)))
 
 returns-3 : tie.Need-returns-3
 returns-3 c =
     let marks = c .before .before .before in
-    rw (c .answer-of3 .ensures) (leaves-unasked (walks marks) (passed marks (c .before .before .if1 .left)) (c .before .if2 .left))
+    rw (c .answer-of3 .ensures) (leaves-unasked (walking marks) (passed marks (c .before .before .if1 .left)) (c .before .if2 .left))
 
 pub walk-opened-spec : {M : Type 1} → statement M
 walk-opened-spec =

@@ -23,7 +23,7 @@ use Rattle.traversal.specs.Walk.{Slices, slices}
 use Rattle.traversal.proofs.Walked.{the-type as walked-type}
 use Rattle.traversal.proofs.Steps.{takes-some}
 use Rattle.walk.specs.State.{Holds}
-use Rattle.walk.proofs.Going.{Going, going-start, going-10, going-end, going-on, going-stop}
+use Rattle.walk.proofs.Going.{Going, going-start, going-10, going-end, going-next, going-stop}
 use Rattle.visit.proofs.Checks.{id-read, place-read, bytes-read, safe}
 use Rattle.walk.proofs.Visits.{does-refused, does-cut, does-leaf, does-deep}
 use Rattle.walk.proofs.Measure.{falls-in, falls-down}
@@ -246,7 +246,7 @@ array-loop-again t c =
       visit .kept .1 .1 .1 .1 .1 .0 ∙ loop .inv .1,
       visit .kept .1 .1 .1 .1 .1 .1 .0 ∙ loop .inv .2,
       visit .kept .1 .1 .1 .1 .1 .1 .1 .0 ∙ loop .inv .3,
-      λ was l parent ups d h. going-on file (targetsIn (now (args .targets))) (args .depth) (args .at) (args .stop) was l parent ups so (loop .p)
+      λ was l parent ups d h. going-next file (targetsIn (now (args .targets))) (args .depth) (args .at) (args .stop) was l parent ups so (loop .p)
           (loop .n) (loop-test .taken) (loop .inv .4 was l parent ups d h) d (visit .result) after (visit .ensures) (extent .result) (walked .given .0 .0) (walked .given .1)
           (extent .ensures),
     )

@@ -1,7 +1,7 @@
 -- By whether the file opens.
 use Rattle.traversal.specs.Walk.{slices, unmarked}
 use Rattle.traversal.proofs.Unmarked.{unmarked-check}
-use Rattle.traversal.proofs.Untouched.{not-begun}
+use Rattle.traversal.proofs.Untouched.{refused-untouched}
 use Rattle.open.proofs.Answer.{told, told-passed}
 use Rattle.open.specs.Format.{meta}
 use mathlib.Core.Path.{sym, _∙_}
@@ -23,7 +23,7 @@ returns-2 c =
     let check = c .before .check in
     let meta-sections = c .before .before .before .before .before .meta-sections in
     let check-meta = c .before .before .before .check-meta in
-    not-begun (now (args .file)) unmarked (slices (now (args .listing)) (now (args .table)) (now (args .records))) (check .given .0 .0)
+    refused-untouched (now (args .file)) unmarked (slices (now (args .listing)) (now (args .table)) (now (args .records))) (check .given .0 .0)
     (unmarked-check (now (args .file)) _ ∙ sym (told meta _ (meta-sections .ensures) (check-meta .ensures)) ∙ check .given .1)
 
 pub records-spec : {M : Type 1} → statement M
