@@ -192,7 +192,7 @@ enum hpcdb_record {
     HPCDB_RECORD_CTX_ID,
     HPCDB_RECORD_RELATION,
     HPCDB_RECORD_LEXICAL_TYPE,
-    HPCDB_RECORD_FLAGS,        /* bit 0: function is present; bit 1: file and line; bit 2: module and offset */
+    HPCDB_RECORD_FLAGS,        /* mod 8; bit 0: function is present; bit 1: file and line; bit 2: module and offset */
     HPCDB_RECORD_FUNCTION,     /* places and numbers; 0 where not present */
     HPCDB_RECORD_FILE,
     HPCDB_RECORD_LINE,

@@ -233,6 +233,28 @@ static void walks_in_parts(void)
     walk_in_parts("crates/walk_cases/data/roots-1024.db", 256);
 }
 
+/* The first of two contexts: its record; and where the second stands. */
+static void first_of_two(const char *path, const uint64_t record[HPCDB_RECORD_WORDS], uint64_t second)
+{
+    uint64_t listing[2], table[3], records[2 * HPCDB_RECORD_WORDS], out[1];
+    load(path);
+    expect("whole", hpcdb_meta_records(file, length, listing, 2, table, 3, records, 2 * HPCDB_RECORD_WORDS, out), HPCDB_OK);
+    expect("listed", out[0], 2);
+    for (int i = 0; i < HPCDB_RECORD_WORDS; i++)
+        expect(path, records[i], record[i]);
+    expect("the next sibling", listing[1], second);
+}
+
+/* Of the flags only the lowest three bits bring fields; a word that no field needs moves the next sibling on, and nothing else. */
+static void flags_mod_8(void)
+{
+    static const uint64_t row_6[HPCDB_RECORD_WORDS] = {600, 1, 1, 0, 0, 6, 0, 360, 77, 264, 0x401000};
+    static const uint64_t row_7[HPCDB_RECORD_WORDS] = {600, 1, 1, 0, 0, 7, 488, 360, 77, 264, 0x401000};
+    first_of_two("crates/walk_cases/data/flags-14.db", row_6, 600 + 56);
+    first_of_two("crates/walk_cases/data/flags-255.db", row_7, 600 + 64);
+    first_of_two("crates/walk_cases/data/flags-6-5-words.db", row_6, 600 + 64);
+}
+
 static void names(void)
 {
     load("crates/meta_cases/data/sound.db");
@@ -376,6 +398,7 @@ int main(void)
     marks_before_the_roots();
     no_new_marks();
     walks_in_parts();
+    flags_mod_8();
     names();
     values();
     tuples_and_lines();

@@ -223,6 +223,25 @@ for b, needed in enumerate([0, 1, 2, 3, 2, 3, 4, 5]):
         f, P = meta(Node(9), Node(b, bits=b, fields=SOUND), Node(8))
         case("flags-%d-%d-words" % (b, needed), f, (3, 10, "whole 3"))
         case("flags-%d-%d-words" % (b, needed - 1), edited(f, words(P[b], needed - 1)), (3, 10, "refused 10 1"), (0, 10, "cut 0"))
+# flags mod 8: 14 is row 6, and 255 row 7
+for b, row, needed in ((14, [6, 0, F + 32, 77, M + 24, 0x401000], 4), (255, [7, *SOUND], 5)):
+    f, P = meta(Node(1, bits=b, fields=SOUND), Node(2))
+    assert P[2] == P[1] + 24 + 8 * needed and walk(f, 2, 3)[1][0][5:] == row
+    case("flags-%d" % b, f, (2, 3, "whole 2"))
+    case("flags-%d-%d-words" % (b, needed - 1), edited(f, words(P[1], needed - 1)), (2, 3, "refused 10 0"))
+# a word more than flags 6 need, which belongs to nothing: the next sibling is 64 bytes on
+f, P = meta(Node(1, bits=6, fields=SOUND, more=(N,)), Node(2))
+assert P[2] == P[1] + 64 and [r[0] for r in walk(f, 2, 3)[1]] == [P[1], P[1] + 64]
+case("flags-6-5-words", f, (2, 3, "whole 2"))
+# nFlexWords 4 over the same bytes: the fifth word is the size of the next context's children, whose place is 0
+case("flags-6-5-words-of-4", edited(f, words(P[1], 4)), (2, 3, "refused 7 1"))
+# every flags byte, as document 01's table has it: place of function, file, line, module, offset
+TABLE = ((None, None, None, None, None), (0, None, None, None, None), (None, 0, 8, None, None), (0, 8, 16, None, None),
+         (None, None, None, 0, 8), (0, None, None, 8, 16), (None, 0, 8, 16, 24), (0, 8, 16, 24, 32))
+f, P = meta(*(Node(b, bits=b, fields=(N + 48 * (b % 3), F + 32 * (b % 3), 1000 + b, M + 24 * (b % 3), END - 1 - b)) for b in range(256)))
+for b, r in enumerate(walk(f, 256, 256)[1]):
+    assert r[6:] == [0 if at is None else number(f, P[b] + 24 + at, width) for at, width in zip(TABLE[b % 8], (8, 8, 4, 8, 8))]
+case("flags-all", f, (256, 256, "whole 256"))
 f, P = meta(Node(1), Node(2), slack=48)
 case("24-bytes-at-the-end", f, "whole 2")
 case("words-1-at-the-end", edited(f, words(P[2], 1)), "refused 10 1", (1, 3, "refused 10 1"), (0, 3, "cut 0"))

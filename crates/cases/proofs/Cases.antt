@@ -10,7 +10,7 @@ use Rattle.lookup.specs.Lookup.{checkedBlock, checkedAt, onChecked, profileBloc
 use Rattle.cases.specs.Walks.{walked}
 use Rattle.cases.specs.W.{parts, w, built}
 use Rattle.cases.specs.B.{three, five, b}
-use Rattle.cases.specs.Flex.{flexFile, aModule, aFile, aFunction}
+use Rattle.cases.specs.FlexFile.{flexFile, aModule, aFile, aFunction}
 
 -- a lookup's answer in words: 0 found, 100 absent, or the refusal's number; then the bits
 abbrev looked : (file : List ℕ) (context metric : ℕ) → List ℕ
@@ -43,7 +43,7 @@ pub cases : _≡_ {A = List (List ℕ)}
     ∷ (101 ∷ 2 ∷ [])
     ∷ (14 ∷ 1 ∷ [])
     ∷ (10 ∷ 0 ∷ [])
-    ∷ (0 ∷ 1 ∷ [])
+    ∷ (0 ∷ 2 ∷ [])
     ∷ (0 ∷ three ∷ [])
     ∷ (0 ∷ five ∷ [])
     ∷ (100 ∷ 0 ∷ [])

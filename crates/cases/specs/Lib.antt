@@ -1,5 +1,5 @@
 pub mod W
-pub mod Flex
+pub mod FlexFile
 pub mod B
 pub mod Opening
 pub mod Walks

@@ -1,5 +1,5 @@
 -- What a walk says and leaves, in words. To unfold one of these is to unfold all that computes it: each case names it alone, with its file.
-use Prim.Native.Nat.{ℕ}
+use Prim.Native.Nat.{ℕ, _*_}
 use mathlib.Core.Bool.{Bool}
 use mathlib.Core.List.{List, [], _∷_}
 use lib.ListN.{replicate}
@@ -11,23 +11,32 @@ use Rattle.layout.specs.Stands.{starts, stands}
 use Rattle.open.specs.Opening.{placeFor, pairAt, pairsFrom, pairs, sectionRule, strideRule, arrayRule, contextsRule, field, numberAt, strideRules, contentRule, headerRule, frontRules, inOrder, sectionCheck, headerCheck, openingWith, opening, onOpened}
 use Rattle.array.specs.Element.{linkedBelow, linked}
 use Rattle.array.specs.Stored.{arrayOf}
-use Rattle.flex.specs.Packing.{bit, oneMore, present, before, words}
+use Rattle.flex.specs.Packing.{bit, presence, isPresent, howMany, before, place, words}
 use Rattle.context.specs.Context.{extent, flexAt, contextRule, linkRule, linksRule, childrenRule, targetsOf}
-use Rattle.context.specs.Entry.{entryAt}
+use Rattle.context.specs.Entry.{entryAt, entryWords, wordsEach}
 use Rattle.mark.specs.Mark.{numberFields, encode, wellFormed, numbersAt, decode, isNamed, pathIn}
 use Rattle.traversal.specs.Traversal.{Asked, ask, listOf, seen, slotCheck, visitCheck, enter, visit, bind, turn, siblings, level, fromRoots, traversal}
 use Rattle.traversal.specs.From.{samePath, pathIndex, skipped, isPassed, afterMark, upToMark, fromMark, lastPath}
-use Rattle.traversal.specs.Walk.{truncate, walkCheck, trailFrom, walkOf, markPassed, newPath, reached, walkedOf, walkedWords, listingWith, slotsWith, tableWith, tableAfter, markAfter, marksWith, unmarked}
+use Rattle.traversal.specs.Walk.{truncate, walkCheck, trailFrom, walkOf, markPassed, newPath, reached, walkedOf, walkedWords, listingWith, slotsWith, tableWith, wordsOf, recordsWith, tableAfter, markAfter, marksWith, unmarked}
 
 -- the answer: 0 whole, 101 cut, or the refusal's number; then the number listed
 unfoldable pub answerTo : Asked → List ℕ
-unfolding number bytes fields starts stands rule first ifPassed either placeFor pairAt pairsFrom pairs sectionRule strideRule arrayRule contextsRule field numberAt strideRules contentRule headerRule frontRules inOrder sectionCheck headerCheck openingWith opening onOpened linkedBelow linked arrayOf bit oneMore present before words extent flexAt contextRule linkRule linksRule childrenRule targetsOf entryAt seen slotCheck visitCheck enter visit bind turn siblings level fromRoots traversal wellFormed numbersAt decode isNamed pathIn samePath pathIndex skipped isPassed afterMark fromMark walkCheck trailFrom truncate walkOf walkedOf walkedWords
+unfolding number bytes fields starts stands rule first ifPassed either placeFor pairAt pairsFrom pairs sectionRule strideRule arrayRule contextsRule field numberAt strideRules contentRule headerRule frontRules inOrder sectionCheck headerCheck openingWith opening onOpened linkedBelow linked arrayOf bit presence isPresent howMany before place words extent flexAt contextRule linkRule linksRule childrenRule targetsOf entryAt seen slotCheck visitCheck enter visit bind turn siblings level fromRoots traversal wellFormed numbersAt decode isNamed pathIn samePath pathIndex skipped isPassed afterMark fromMark walkCheck trailFrom truncate walkOf walkedOf walkedWords
 answerTo a = walkedWords (walkedOf (walkOf a))
 
 -- without a mark, by the lengths of the listing and the table
 unfoldable pub walked : (file : List ℕ) (listing table : ℕ) → List ℕ
 unfolding answerTo
 walked file listing table = answerTo (ask file unmarked (record { words = listing; slots = table; bytes = 0 }))
+
+-- the same, and the records of what is listed, of which each word was 9
+unfoldable pub walkedRecords : (file : List ℕ) (listing table : ℕ) → List (List ℕ)
+unfolding answerTo over entryWords wordsOf recordsWith
+walkedRecords file listing table =
+    let a = ask file unmarked (record { words = listing; slots = table; bytes = 0 }) in
+    answerTo a
+    ∷ recordsWith (listOf (walkOf a)) (replicate (listing * wordsEach) 9)
+    ∷ []
 
 -- from a mark: the answer; the listing, of which each word was 8; the table, of which each was 7; the bytes for the new mark, each of
 -- which was 9

@@ -6,17 +6,12 @@ use mathlib.Core.Path.{_≡_, refl, sym, _∙_}
 use native.Mathlib.Omega.{arith}
 use borrow.Author.Tests.{le-leb, lt-leb, leb-true, leb-false}
 use lib.Dec.{leb}
-use lib.ListN.{length, getD}
+use lib.ListN.{length}
 use Rattle.open.specs.Opening.{field}
 use Rattle.range.proofs.Tests.{both}
-use Rattle.flex.specs.Packing.{packing, bit, before, words}
-use Rattle.flex.proofs.Count.{inside}
+use Rattle.flex.specs.Packing.{words}
 use Rattle.context.specs.Context.{flags, flexWords, extent, contextRule}
 use Rattle.context.specs.Sound.{Readable}
-
--- a present field ends inside what its flags need
-pub field-inside : (bits j b : ℕ) → j < 5 → bit bits (getD packing j 0) ≡ true → b ≡ before bits j → b < words bits
-field-inside bits j b h present k = omega (arith, inside bits j h present)
 
 leb-shift : (a b c : ℕ) → a ≤ c → leb b (c - a) ≡ leb (a + b) c
 leb-shift a b c h = go (leb b (c - a)) refl

@@ -12,7 +12,8 @@ use Rattle.open.specs.Opening.{field, contextsRule, placeIn, sizeIn}
 use Rattle.array.specs.declared.Array.{Array}
 use Rattle.array.specs.Element.{linked}
 use Rattle.array.specs.Stored.{arrayIn}
-use Rattle.flex.specs.Packing.{packing, bit, place, words}
+use Rattle.flex.specs.Names as Flex
+use Rattle.flex.specs.Packing.{isPresent, place, words}
 
 -- what the pointers of contexts may lead to: the Context section, and the arrays of functions, files and modules
 pub record Targets : Type 0 where
@@ -58,7 +59,7 @@ widths = 8 ∷ 8 ∷ 4 ∷ 8 ∷ 8 ∷ []
 -- what flex field j holds; 0 where it is not present
 unfoldable pub flexAt : List ℕ → (p j : ℕ) → ℕ
 flexAt file p j =
-    either (bit (field file p flags) (getD packing j 0))
+    either (isPresent (field file p flags) j)
     (number (getD widths j 0) file (p + 24 + place (field file p flags) j)) 0
 
 -- ---- rules
@@ -74,9 +75,9 @@ linkRule present a link = not present || (not (eqb link 0) && linked a link)
 
 unfoldable pub linksRule : Targets → List ℕ → (p : ℕ) → Bool
 linksRule t file p =
-    linkRule (bit (field file p flags) 0) (t .functions) (flexAt file p 0)
-    && (linkRule (bit (field file p flags) 1) (t .files) (flexAt file p 1)
-    && linkRule (bit (field file p flags) 2) (t .modules) (flexAt file p 3))
+    linkRule (isPresent (field file p flags) Flex.function) (t .functions) (flexAt file p Flex.function)
+    && (linkRule (isPresent (field file p flags) Flex.file) (t .files) (flexAt file p Flex.file)
+    && linkRule (isPresent (field file p flags) Flex.loadModule) (t .modules) (flexAt file p Flex.loadModule))
 
 -- 7: the range of its children, in the Context section
 unfoldable pub childrenRule : Targets → List ℕ → (p : ℕ) → Bool

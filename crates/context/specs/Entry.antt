@@ -3,6 +3,7 @@ use Prim.Native.Nat.{ℕ, _%_}
 use mathlib.Core.List.{List, [], _∷_}
 use lib.ListN.{length}
 use Rattle.open.specs.Opening.{field}
+use Rattle.flex.specs.Names as Flex
 use Rattle.context.specs.Context.{ctxId, flags, relation, lexicalType, flexAt}
 
 -- flags: those that bring flex fields, the lowest three. Absent flex fields are 0. `parent`: the place of the context whose child
@@ -31,11 +32,11 @@ entryAt f parent path p = record {
   relation = field f p relation;
   lexicalType = field f p lexicalType;
   flags = field f p flags % 8;
-  function = flexAt f p 0;
-  file = flexAt f p 1;
-  line = flexAt f p 2;
-  loadModule = flexAt f p 3;
-  offset = flexAt f p 4;
+  function = flexAt f p Flex.function;
+  file = flexAt f p Flex.file;
+  line = flexAt f p Flex.line;
+  loadModule = flexAt f p Flex.loadModule;
+  offset = flexAt f p Flex.offset;
   parent = parent;
   path = path;
 }

@@ -1,3 +1,4 @@
 pub mod Context
 pub mod Entry
 pub mod Sound
+pub mod FlexSays

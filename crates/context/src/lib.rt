@@ -2,12 +2,13 @@
 ghost use mathlib.Core.Bool.{true};
 ghost use mathlib.Core.Path.{_≡_};
 ghost use Prim.Native.Nat.{_+_, _*_, _≤_, _<_};
-ghost use lib.ListN.{length, getD};
+ghost use lib.ListN.{length};
 ghost use Rattle.le.specs.Number.{number};
 ghost use Rattle.refusal.specs.Check.{either};
 ghost use Rattle.open.specs.Format.{meta};
 ghost use Rattle.open.specs.Kept.{Sections};
-ghost use Rattle.flex.specs.Packing.{packing, bit, place, words};
+ghost use Rattle.flex.specs.Names as Flex;
+ghost use Rattle.flex.specs.Packing.{isPresent, place, words};
 ghost use Rattle.context.specs.Context.{extent, contextRule, linkRule, linksRule, childrenRule, targetsOf};
 ghost use Rattle.context.specs.Sound.{arrayInWords, targetsIn, Readable, WordsOf};
 use array::Array;
@@ -93,24 +94,24 @@ pub fn context_rule(file: &[u8], p: usize, stop: usize) -> bool
         return false;
     }
     let needed = flex::words(le::load_u8(file, p + FLAGS));
-    let held = le::load_u8(file, p + FLEX_WORDS) as u64;
+    let held = le::load_u8(file, p + FLEX_WORDS) as usize;
     (extent(file, p) <= stop - p) & (needed <= held)
 }
 
 // Flex field j, which is present, eight bytes wide.
 fn present_word(file: &[u8], p: usize, flags: u8, j: u64) -> u64
     requires { ⌜ p + 24 + 8 * words flags ≤ length (now file) ⌝ }
-    requires { ⌜ (j < 5) × (bit flags (getD packing j 0) ≡ true) ⌝ }
+    requires { ⌜ isPresent flags j ≡ true ⌝ }
     ensures { λ r. ⌜ r ≡ number 8 (now (file .entry)) (p + 24 + place flags j) ⌝ }
 {
-    le::load_u64(file, p + FLEX + 8 * (flex::before(flags, j) as usize))
+    le::load_u64(file, p + FLEX + flex::place(flags, j))
 }
 
 // Flex field j; 0 where it is not present.
 fn flex_word(file: &[u8], p: usize, flags: u8, present: bool, j: u64) -> u64
     requires { ⌜ p + 24 + 8 * words flags ≤ length (now file) ⌝ }
-    requires { ⌜ (j < 5) × (present ≡ bit flags (getD packing j 0)) ⌝ }
-    ensures { λ r. ⌜ r ≡ either present (number 8 (now (file .entry)) (p + 24 + place flags j)) 0 ⌝ }
+    requires { ⌜ present ≡ isPresent flags j ⌝ }
+    ensures { λ r. ⌜ r ≡ either (isPresent flags j) (number 8 (now (file .entry)) (p + 24 + place flags j)) 0 ⌝ }
 {
     if present {
         return present_word(file, p, flags, j);
@@ -121,10 +122,10 @@ fn flex_word(file: &[u8], p: usize, flags: u8, present: bool, j: u64) -> u64
 // The line, four bytes wide.
 fn line(file: &[u8], p: usize, flags: u8) -> u64
     requires { ⌜ p + 24 + 8 * words flags ≤ length (now file) ⌝ }
-    ensures { λ r. ⌜ r ≡ either (bit flags 1) (number 4 (now (file .entry)) (p + 24 + place flags 2)) 0 ⌝ }
+    ensures { λ r. ⌜ r ≡ either (isPresent flags Flex.line) (number 4 (now (file .entry)) (p + 24 + place flags Flex.line)) 0 ⌝ }
 {
     if flex::has_source(flags) {
-        return le::load_u32(file, p + FLEX + 8 * (flex::before(flags, 2) as usize)) as u64;
+        return le::load_u32(file, p + FLEX + flex::place(flags, flex::LINE)) as u64;
     }
     0
 }
@@ -132,8 +133,8 @@ fn line(file: &[u8], p: usize, flags: u8) -> u64
 // 9, of the link in flex field j.
 fn link_rule(file: &[u8], p: usize, flags: u8, present: bool, j: u64, a: Array) -> bool
     requires { ⌜ p + 24 + 8 * words flags ≤ length (now file) ⌝ }
-    requires { ⌜ (j < 5) × (present ≡ bit flags (getD packing j 0)) ⌝ }
-    ensures { λ r. ⌜ r ≡ linkRule present a (either present (number 8 (now (file .entry)) (p + 24 + place flags j)) 0) ⌝ }
+    requires { ⌜ present ≡ isPresent flags j ⌝ }
+    ensures { λ r. ⌜ r ≡ linkRule (isPresent flags j) a (either (isPresent flags j) (number 8 (now (file .entry)) (p + 24 + place flags j)) 0) ⌝ }
 {
     if present {
         let link = present_word(file, p, flags, j);
@@ -154,9 +155,9 @@ pub fn links_rule(file: &[u8], targets: &[u64; TARGETS], p: usize) -> bool
     let functions = array_in(targets, FUNCTIONS);
     let files = array_in(targets, FILES);
     let modules = array_in(targets, MODULES);
-    link_rule(file, p, flags, has_function, 0, functions)
-        & (link_rule(file, p, flags, has_source, 1, files)
-            & link_rule(file, p, flags, has_point, 3, modules))
+    link_rule(file, p, flags, has_function, flex::FUNCTION, functions)
+        & (link_rule(file, p, flags, has_source, flex::FILE, files)
+            & link_rule(file, p, flags, has_point, flex::MODULE, modules))
 }
 
 // 7.
@@ -177,11 +178,11 @@ pub fn entry_words(file: &[u8], p: usize, depth: u64) -> [u64; RECORD]
     let flags = le::load_u8(file, p + FLAGS);
     let has_source = flex::has_source(flags);
     let has_point = flex::has_point(flags);
-    let function = flex_word(file, p, flags, flex::has_function(flags), 0);
-    let source = flex_word(file, p, flags, has_source, 1);
+    let function = flex_word(file, p, flags, flex::has_function(flags), flex::FUNCTION);
+    let source = flex_word(file, p, flags, has_source, flex::FILE);
     let line = line(file, p, flags);
-    let load_module = flex_word(file, p, flags, has_point, 3);
-    let offset = flex_word(file, p, flags, has_point, 4);
+    let load_module = flex_word(file, p, flags, has_point, flex::MODULE);
+    let offset = flex_word(file, p, flags, has_point, flex::OFFSET);
     let ctx_id = le::load_u32(file, p + CTX_ID) as u64;
     let relation = le::load_u8(file, p + RELATION) as u64;
     let lexical_type = le::load_u8(file, p + LEXICAL_TYPE) as u64;

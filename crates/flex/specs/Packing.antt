@@ -1,33 +1,41 @@
 -- The packing rule of a context's flex words: which fields its flags bring, and where each stands.
 use Prim.Native.Nat.{ℕ, suc, _*_, _/_, _%_, _^_}
 use mathlib.Core.Bool.{Bool, true, false}
-use mathlib.Core.List.{List, [], _∷_}
+use mathlib.Core.List.{List, [], _∷_, map}
 use lib.Dec.{eqb}
-use lib.ListN.{take}
+use lib.ListN.{getD, take}
 
--- the fields in packing order, each by the bit of the flags that brings it: function; file, line; module, offset
+-- "Bit 0 brings the function, bit 1 file and line, bit 2 module and offset": the bit that brings each field, in packing order
+-- (`Names.antt`)
 abbrev pub packing : List ℕ
 packing = 0 ∷ 1 ∷ 1 ∷ 2 ∷ 2 ∷ []
 
--- bits 3 to 7 bring nothing that is read
+-- whether a bit is set
 unfoldable pub bit : (flags b : ℕ) → Bool
 bit flags b = eqb (flags / 2 ^ b % 2) 1
 
+-- whether each field is present
+unfoldable pub presence : (flags : ℕ) → List Bool
+presence flags = map (bit flags) packing
+
+-- whether field j is; there is none behind the last
+unfoldable pub isPresent : (flags j : ℕ) → Bool
+isPresent flags j = getD (presence flags) j false
+
 -- how many of some fields are present
-unfoldable pub oneMore : Bool → ℕ → ℕ
-oneMore true n = suc n
-oneMore false n = n
+unfoldable pub howMany : List Bool → ℕ
+howMany [] = 0
+howMany (true ∷ rest) = suc (howMany rest)
+howMany (false ∷ rest) = howMany rest
 
-unfoldable pub present : (flags : ℕ) → List ℕ → ℕ
-present flags [] = 0
-present flags (b ∷ rest) = oneMore (bit flags b) (present flags rest)
-
--- how many fields stand before field j; its byte place in flex; the words that all fields take
+-- "the number of present fields before it"
 unfoldable pub before : (flags j : ℕ) → ℕ
-before flags j = present flags (take j packing)
+before flags j = howMany (take j (presence flags))
 
-abbrev pub place : (flags j : ℕ) → ℕ
+-- "a present field's place is 8 times" that: in bytes, from the start of flex
+unfoldable pub place : (flags j : ℕ) → ℕ
 place flags j = 8 * before flags j
 
+-- "the words needed are the number present"
 unfoldable pub words : (flags : ℕ) → ℕ
-words flags = present flags packing
+words flags = howMany (presence flags)

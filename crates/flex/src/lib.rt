@@ -1,47 +1,70 @@
-// Flex words: which fields are present, and where. Fields are numbered in packing order: 0 function, 1 file, 2 line, 3 module,
-// 4 offset.
+// Flex words: which fields are present, and where.
 ghost use mathlib.Core.Path.{_≡_};
-ghost use Rattle.flex.specs.Packing.{bit, before, words};
+ghost use Rattle.flex.specs.Names as Flex;
+ghost use Rattle.flex.specs.Packing.{isPresent, before, place, words};
 
-// Whether the flags bring a function; a file and line; a module and offset.
+// The fields, in packing order.
+pub const FUNCTION: u64 = 0;
+
+pub const FILE: u64 = 1;
+
+pub const LINE: u64 = 2;
+
+pub const MODULE: u64 = 3;
+
+pub const OFFSET: u64 = 4;
+
+// How many they are.
+const FIELDS: u64 = 5;
+
+// Bit 0 brings the function.
 pub fn has_function(flags: u8) -> bool
-    ensures { λ r. ⌜ r ≡ bit flags 0 ⌝ }
+    ensures { λ r. ⌜ r ≡ isPresent flags Flex.function ⌝ }
 {
     flags % 2 == 1
 }
 
+// Bit 1 brings file and line.
 pub fn has_source(flags: u8) -> bool
-    ensures { λ r. ⌜ r ≡ bit flags 1 ⌝ }
+    ensures { λ r. ⌜ (r ≡ isPresent flags Flex.file) × (r ≡ isPresent flags Flex.line) ⌝ }
 {
     flags / 2 % 2 == 1
 }
 
+// Bit 2 brings module and offset.
 pub fn has_point(flags: u8) -> bool
-    ensures { λ r. ⌜ r ≡ bit flags 2 ⌝ }
+    ensures { λ r. ⌜ (r ≡ isPresent flags Flex.loadModule) × (r ≡ isPresent flags Flex.offset) ⌝ }
 {
     flags / 4 % 2 == 1
 }
 
-// How many fields stand before one; each takes eight bytes.
-pub fn before(flags: u8, field: u64) -> u64
+// How many present fields stand before one.
+fn before(flags: u8, field: u64) -> usize
     ensures { λ r. ⌜ r ≡ before flags field ⌝ }
 {
-    let function = (flags % 2) as u64;
-    let source = (flags / 2 % 2) as u64;
-    let point = (flags / 4 % 2) as u64;
+    let function = (flags % 2) as usize;
+    let source = (flags / 2 % 2) as usize;
+    let point = (flags / 4 % 2) as usize;
     match field {
-        0 => 0,
-        1 => function,
-        2 => function + source,
-        3 => function + 2 * source,
-        4 => function + 2 * source + point,
+        FUNCTION => 0,
+        FILE => function,
+        LINE => function + source,
+        MODULE => function + 2 * source,
+        OFFSET => function + 2 * source + point,
         _ => function + 2 * source + 2 * point,
     }
 }
 
-// How many words all fields take.
-pub fn words(flags: u8) -> u64
+// Where a present field starts, in bytes from the start of flex.
+pub fn place(flags: u8, field: u64) -> usize
+    ensures { λ r. ⌜ r ≡ place flags field ⌝ }
+{
+    8 * before(flags, field)
+}
+
+// How many words the flags need.
+pub fn words(flags: u8) -> usize
     ensures { λ r. ⌜ r ≡ words flags ⌝ }
 {
-    before(flags, 5)
+    before(flags, FIELDS)
 }

@@ -1,0 +1,48 @@
+-- Document 01's table of byte places in flex, and what the packing rule says in its form.
+use Prim.Native.Nat.{ℕ, _%_}
+use mathlib.Core.Bool.{Bool, true, false}
+use mathlib.Core.List.{List, [], _∷_, map}
+use lib.ListN.{getD}
+use Rattle.flex.specs.Names as Flex
+use Rattle.flex.specs.Packing.{isPresent, place, words}
+
+-- a field's place; or blank, where it is not present
+abbrev pub Cell : Type 0
+Cell = List ℕ
+
+abbrev pub blankCell : Cell
+blankCell = []
+
+abbrev at : ℕ → Cell
+at n = n ∷ []
+
+-- the cells of function, file, line, module and offset; the words
+abbrev pub Row : Type 0
+Row = List Cell × ℕ
+
+abbrev pub flexTable : List Row
+flexTable =
+    (blankCell ∷ blankCell ∷ blankCell ∷ blankCell ∷ blankCell ∷ [], 0)
+    ∷ (at 0 ∷ blankCell ∷ blankCell ∷ blankCell ∷ blankCell ∷ [], 1)
+    ∷ (blankCell ∷ at 0 ∷ at 8 ∷ blankCell ∷ blankCell ∷ [], 2)
+    ∷ (at 0 ∷ at 8 ∷ at 16 ∷ blankCell ∷ blankCell ∷ [], 3)
+    ∷ (blankCell ∷ blankCell ∷ blankCell ∷ at 0 ∷ at 8 ∷ [], 2)
+    ∷ (at 0 ∷ blankCell ∷ blankCell ∷ at 8 ∷ at 16 ∷ [], 3)
+    ∷ (blankCell ∷ at 0 ∷ at 8 ∷ at 16 ∷ at 24 ∷ [], 4)
+    ∷ (at 0 ∷ at 8 ∷ at 16 ∷ at 24 ∷ at 32 ∷ [], 5)
+    ∷ []
+
+-- the row headed by flags mod 8
+unfoldable pub tableRow : (flags : ℕ) → Row
+tableRow flags = getD flexTable (flags % 8) ([], 0)
+
+-- by the packing rule
+unfoldable pub cellOf : (present : Bool) → (place : ℕ) → Cell
+cellOf true n = at n
+cellOf false n = blankCell
+
+unfoldable pub ruleRow : (flags : ℕ) → Row
+ruleRow flags = (
+  map (λ j. cellOf (isPresent flags j) (place flags j)) (Flex.function ∷ Flex.file ∷ Flex.line ∷ Flex.loadModule ∷ Flex.offset ∷ []),
+  words flags,
+)
