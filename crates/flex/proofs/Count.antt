@@ -19,11 +19,11 @@ below-2 : (x : ℕ) → x % 2 < 2
 below-2 x = omega arith
 
 module _ (flags : ℕ) where
-  abbrev sum : List ℕ → ℕ
-  sum [] = 0
-  sum (b ∷ rest) = flags / 2 ^ b % 2 + sum rest
+  abbrev bitSum : List ℕ → ℕ
+  bitSum [] = 0
+  bitSum (b ∷ rest) = flags / 2 ^ b % 2 + bitSum rest
 
-  counted : (bits : List ℕ) → howMany (map (bit flags) bits) ≡ sum bits
+  counted : (bits : List ℕ) → howMany (map (bit flags) bits) ≡ bitSum bits
   unfolding bit howMany
   counted [] = refl
   counted (b ∷ rest) =
