@@ -8,20 +8,20 @@ use lib.ListN.{getD}
 use Rattle.le.specs.Number.{number}
 use Rattle.open.specs.Opening.{field}
 use Rattle.flex.specs.Packing.{isPresent}
-use Rattle.flex.specs.Table.{Cell, Row, blankCell, tableRow}
+use Rattle.flex.specs.Table.{FlexCell, FlexRow, blankCell, tableRow}
 use Rattle.context.specs.Context.{flags, flexWords, extent, widths, flexAt, contextRule}
 use Rattle.context.specs.Entry.{entryAt}
 
 -- what stands at a cell's place in the flex words from `start` on; 0 where it is blank
-abbrev pub heldAt : Cell → (width : ℕ) → List ℕ → (start : ℕ) → ℕ
+abbrev pub heldAt : FlexCell → (width : ℕ) → List ℕ → (start : ℕ) → ℕ
 heldAt [] width file start = 0
 heldAt (place ∷ rest) width file start = number width file (start + place)
 
 -- the row headed by its flags mod 8, and the cell of field j there
-abbrev rowAt : List ℕ → (p : ℕ) → Row
+abbrev rowAt : List ℕ → (p : ℕ) → FlexRow
 rowAt file p = tableRow (field file p flags)
 
-abbrev cellAt : List ℕ → (p j : ℕ) → Cell
+abbrev cellAt : List ℕ → (p j : ℕ) → FlexCell
 cellAt file p j = getD (rowAt file p .0) j blankCell
 
 pub record FlexSays (file : List ℕ) (p : ℕ) : Type 0 where

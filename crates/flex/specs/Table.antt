@@ -7,20 +7,20 @@ use Rattle.flex.specs.Names as Flex
 use Rattle.flex.specs.Packing.{isPresent, place, words}
 
 -- a field's place; or blank, where it is not present
-abbrev pub Cell : Type 0
-Cell = List ℕ
+abbrev pub FlexCell : Type 0
+FlexCell = List ℕ
 
-abbrev pub blankCell : Cell
+abbrev pub blankCell : FlexCell
 blankCell = []
 
-abbrev at : ℕ → Cell
+abbrev at : ℕ → FlexCell
 at n = n ∷ []
 
 -- the cells of function, file, line, module and offset; the words
-abbrev pub Row : Type 0
-Row = List Cell × ℕ
+abbrev pub FlexRow : Type 0
+FlexRow = List FlexCell × ℕ
 
-abbrev pub flexTable : List Row
+abbrev pub flexTable : List FlexRow
 flexTable =
     (blankCell ∷ blankCell ∷ blankCell ∷ blankCell ∷ blankCell ∷ [], 0)
     ∷ (at 0 ∷ blankCell ∷ blankCell ∷ blankCell ∷ blankCell ∷ [], 1)
@@ -33,15 +33,15 @@ flexTable =
     ∷ []
 
 -- the row headed by flags mod 8
-unfoldable pub tableRow : (flags : ℕ) → Row
+unfoldable pub tableRow : (flags : ℕ) → FlexRow
 tableRow flags = getD flexTable (flags % 8) ([], 0)
 
 -- by the packing rule
-unfoldable pub cellOf : (present : Bool) → (place : ℕ) → Cell
+unfoldable pub cellOf : (present : Bool) → (place : ℕ) → FlexCell
 cellOf true n = at n
 cellOf false n = blankCell
 
-unfoldable pub ruleRow : (flags : ℕ) → Row
+unfoldable pub ruleRow : (flags : ℕ) → FlexRow
 ruleRow flags = (
   map (λ j. cellOf (isPresent flags j) (place flags j)) (Flex.function ∷ Flex.file ∷ Flex.line ∷ Flex.loadModule ∷ Flex.offset ∷ []),
   words flags,
