@@ -18,7 +18,7 @@
  *
  * Every function returns a code. HPCDB_OK: the answer stands in `out`. Any other: `out` is as it was (but for the three walks, which
  * always write it). Positions, ids and times are never narrowed: what is too large for its field is not there. Places are offsets from the
- * file's first byte; a string is `length` bytes from `place` on, without the NUL behind them. */
+ * file's first byte; a string is `length` bytes from `place` on, in UTF-8 (RFC 3629), without the NUL behind them. */
 #ifndef HPCDB_H
 #define HPCDB_H
 
@@ -28,15 +28,15 @@
 /* The version of the library, which is not that of the format. The second number rises with a change of a declaration here, or of what a
  * code is given for. */
 #define HPCDB_VERSION_MAJOR 0
-#define HPCDB_VERSION_MINOR 5
+#define HPCDB_VERSION_MINOR 6
 #define HPCDB_VERSION_PATCH 0
-#define HPCDB_LIBRARY_VERSION "0.5.0"
+#define HPCDB_LIBRARY_VERSION "0.6.0"
 
 #ifdef __cplusplus
 extern "C" {
 #endif
 
-/* The refusals have the numbers of document 01's table. */
+/* The refusals have the numbers of document 01's table, and from 18 on of document 02. */
 enum hpcdb_code {
     HPCDB_OK = 0,
     HPCDB_SHORT = 1,       /* fewer bytes than header and eight more */
@@ -62,6 +62,7 @@ enum hpcdb_code {
     HPCDB_ROOM = 17,       /* fewer than 8 lent bytes for a value, too few answers for the pairs, too few bytes for a written file, or
                             * fewer than 805 for a new mark that is asked for */
     HPCDB_MARK = 18,       /* a mark that is malformed, or that names a context which is not there */
+    HPCDB_SPELLING = 19,   /* a string in its section whose bytes are not UTF-8 */
     HPCDB_ABSENT = 100,    /* the file opens, the asked block or line is sound, and there is no such thing in it; no other block, line or
                             * tuple of the file was looked at */
     HPCDB_CUT = 101        /* a walk listed as many contexts as there was room for, and there are more */
@@ -103,14 +104,18 @@ enum hpcdb_count {
 };
 uint32_t hpcdb_meta_counts(const uint8_t *file, size_t file_length, uint64_t out[5]);
 
-/* out: place and length. STRING. */
+/* Strings. Where one is refused (STRING, SPELLING), nothing of its element is handed back: of a metric, say, not the number of its scopes
+ * either. The strings of the elements around it are not read: the scopes of a metric whose name is refused can be asked for. Walks and
+ * lookups read no string. */
+
+/* out: place and length. STRING, SPELLING. */
 uint32_t hpcdb_meta_title(const uint8_t *file, size_t file_length, uint64_t out[2]);
 uint32_t hpcdb_meta_description(const uint8_t *file, size_t file_length, uint64_t out[2]);
 
-/* The name of an identifier kind. out: place and length. INDEX, STRING. */
+/* The name of an identifier kind. out: place and length. INDEX, STRING, SPELLING. */
 uint32_t hpcdb_meta_id_name(const uint8_t *file, size_t file_length, uint64_t kind, uint64_t out[2]);
 
-/* Metric i. INDEX, ARRAY, STRING. */
+/* Metric i. INDEX, ARRAY, STRING, SPELLING. */
 enum hpcdb_metric {
     HPCDB_METRIC_NAME, /* its place */
     HPCDB_METRIC_NAME_LENGTH,
@@ -119,7 +124,7 @@ enum hpcdb_metric {
 };
 uint32_t hpcdb_meta_metric(const uint8_t *file, size_t file_length, uint64_t i, uint64_t out[3]);
 
-/* Scope j of metric i. INDEX, ARRAY, STRING. */
+/* Scope j of metric i. INDEX, ARRAY, STRING, SPELLING. */
 enum hpcdb_scope {
     HPCDB_SCOPE_NAME,
     HPCDB_SCOPE_NAME_LENGTH,
@@ -129,7 +134,7 @@ enum hpcdb_scope {
 };
 uint32_t hpcdb_meta_scope(const uint8_t *file, size_t file_length, uint64_t i, uint64_t j, uint64_t out[4]);
 
-/* Summary k of scope j of metric i. INDEX, ARRAY, STRING. */
+/* Summary k of scope j of metric i. INDEX, ARRAY, STRING, SPELLING. */
 enum hpcdb_summary {
     HPCDB_SUMMARY_FORMULA,
     HPCDB_SUMMARY_FORMULA_LENGTH,
@@ -139,10 +144,10 @@ enum hpcdb_summary {
 };
 uint32_t hpcdb_meta_summary(const uint8_t *file, size_t file_length, uint64_t i, uint64_t j, uint64_t k, uint64_t out[4]);
 
-/* Load module i. out: place and length of its path. INDEX, STRING. */
+/* Load module i. out: place and length of its path. INDEX, STRING, SPELLING. */
 uint32_t hpcdb_meta_module(const uint8_t *file, size_t file_length, uint64_t i, uint64_t out[2]);
 
-/* Source file i. INDEX, STRING. */
+/* Source file i. INDEX, STRING, SPELLING. */
 enum hpcdb_file {
     HPCDB_FILE_PATH,
     HPCDB_FILE_PATH_LENGTH,
@@ -151,7 +156,7 @@ enum hpcdb_file {
 };
 uint32_t hpcdb_meta_file(const uint8_t *file, size_t file_length, uint64_t i, uint64_t out[3]);
 
-/* Function i. What is shown for a function without a name is the caller's own. INDEX, LINK, STRING. */
+/* Function i. What is shown for a function without a name is the caller's own. INDEX, LINK, STRING, SPELLING. */
 enum hpcdb_function {
     HPCDB_FUNCTION_NO_NAME, /* 1 if it has no name, and else 0 */
     HPCDB_FUNCTION_NAME,    /* place and length; 0 and 0 if it has none */

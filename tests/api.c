@@ -285,6 +285,57 @@ static void names(void)
     CODE("no such scope", hpcdb_meta_summary(file, length, 0, UINT64_MAX, 0, out), 4, HPCDB_INDEX);
 }
 
+/* A string that is handed back, its place in word `first` of out and its length in the next; refused with a byte of no character in it. */
+#define STRING(what, call, n, first, text) \
+    do { \
+        uint64_t out[n] = {0}; \
+        expect(what, call, HPCDB_OK); \
+        uint8_t *start = file + out[first]; \
+        expect(what, out[(first) + 1], strlen(text)); \
+        expect(what, memcmp(start, text, strlen(text)), 0); \
+        uint8_t byte = *start; \
+        *start = 0xff; \
+        CODE(what, call, n, HPCDB_SPELLING); \
+        *start = byte; \
+    } while (0)
+
+static void names_in_utf_8(void)
+{
+    load("crates/meta_cases/data/utf-8.db");
+    STRING("title in UTF-8", hpcdb_meta_title(file, length, out), 2, 0, "\xc3\xa9rvey of a solver");
+    STRING("description in UTF-8", hpcdb_meta_description(file, length, out), 2, 0, "\xef\xbb\xbfwo ranks");
+    STRING("kind in UTF-8", hpcdb_meta_id_name(file, length, 0, out), 2, 0, "\xf4\x8f\xbf\xbf");
+    STRING("metric in UTF-8", hpcdb_meta_metric(file, length, 0, out), HPCDB_METRIC_WORDS, HPCDB_METRIC_NAME, "\xef\xbf\xbfles");
+    STRING("scope in UTF-8", hpcdb_meta_scope(file, length, 0, 0, out), HPCDB_SCOPE_WORDS, HPCDB_SCOPE_NAME, "\xe2\x82\xac\xc3\xa9");
+    STRING("summary in UTF-8", hpcdb_meta_summary(file, length, 0, 0, 0, out), HPCDB_SUMMARY_WORDS, HPCDB_SUMMARY_FORMULA, "\xc3\xa9");
+    STRING("module in UTF-8", hpcdb_meta_module(file, length, 0, out), 2, 0, "\xc2\x80\xdf\xbf\xe0\xa0\x80" "bsolver.so");
+    STRING("file in UTF-8", hpcdb_meta_file(file, length, 0, out), HPCDB_FILE_WORDS, HPCDB_FILE_PATH, "\xed\x9f\xbf\xee\x80\x80lve.c");
+    STRING("function in UTF-8", hpcdb_meta_function(file, length, 0, out), HPCDB_FUNCTION_WORDS, HPCDB_FUNCTION_NAME, "\xf0\x90\x80\x80" "e");
+}
+
+/* What is refused before a name for its spelling, and what does not depend on it. */
+static void spelling_among_others(void)
+{
+    uint64_t listing[2], table[3];
+    load("crates/meta_cases/data/two-spelling-and-no-nul.db");
+    CODE("no NUL", hpcdb_meta_function(file, length, 0, out), 7, HPCDB_STRING);
+    load("crates/meta_cases/data/two-spelling-and-link.db");
+    CODE("a link", hpcdb_meta_function(file, length, 0, out), 7, HPCDB_LINK);
+    load("crates/meta_cases/data/two-spelling-and-array-of-metric.db");
+    CODE("the scopes of a metric", hpcdb_meta_metric(file, length, 0, out), 3, HPCDB_ARRAY);
+    load("crates/meta_cases/data/two-spelling-and-array-of-scope.db");
+    CODE("the summaries of a scope", hpcdb_meta_scope(file, length, 0, 0, out), 4, HPCDB_ARRAY);
+    load("crates/meta_cases/data/two-spelling-of-metric-and-scope.db");
+    CODE("a metric", hpcdb_meta_metric(file, length, 0, out), 3, HPCDB_SPELLING);
+    CODE("a scope of it", hpcdb_meta_scope(file, length, 0, 0, out), 4, HPCDB_SPELLING);
+    WORDS("another scope of it", hpcdb_meta_scope(file, length, 0, 1, out), 4, 534, 9, 0, 65535);
+    WORDS("a summary of the scope", hpcdb_meta_summary(file, length, 0, 0, 0, out), 4, 553, 2, 0, 20);
+    load("crates/walk_cases/data/flags-255.db");
+    file[216] = 0xe9;
+    CODE("a function", hpcdb_meta_function(file, length, 0, out), 7, HPCDB_SPELLING);
+    WORDS("a walk past it", hpcdb_meta_walk(file, length, listing, 2, table, 3, out), 1, 2);
+}
+
 static void values(void)
 {
     static const uint64_t pairs[7] = {5, 4, 9, 1, 7, 1, 5};
@@ -400,6 +451,8 @@ int main(void)
     walks_in_parts();
     flags_mod_8();
     names();
+    names_in_utf_8();
+    spelling_among_others();
     values();
     tuples_and_lines();
     repeated_times();

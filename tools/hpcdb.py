@@ -157,6 +157,33 @@ def sections_of(file, kind="meta"):
     return pairs
 
 
+# RFC 3629, section 4: the forms of a character, each with the ranges of its bytes
+TAIL = (0x80, 0xBF)
+UTF8_CHAR = (
+    ((0x00, 0x7F),),
+    ((0xC2, 0xDF), TAIL),
+    ((0xE0, 0xE0), (0xA0, 0xBF), TAIL),
+    ((0xE1, 0xEC), TAIL, TAIL),
+    ((0xED, 0xED), (0x80, 0x9F), TAIL),
+    ((0xEE, 0xEF), TAIL, TAIL),
+    ((0xF0, 0xF0), (0x90, 0xBF), TAIL, TAIL),
+    ((0xF1, 0xF3), TAIL, TAIL, TAIL),
+    ((0xF4, 0xF4), (0x80, 0x8F), TAIL, TAIL))
+
+
+def starts_with(data, form):
+    return len(data) >= len(form) and all(low <= byte <= high for byte, (low, high) in zip(data, form))
+
+
+def is_utf8(data):
+    while data:
+        form = next((form for form in UTF8_CHAR if starts_with(data, form)), None)
+        if form is None:
+            return False
+        data = data[len(form):]
+    return True
+
+
 def string(file, section, place):
     start, size = section
     if not start <= place < start + size:
@@ -164,6 +191,8 @@ def string(file, section, place):
     end = file.find(b"\0", place, start + size)
     if end < 0:
         raise Refused(8)
+    if not is_utf8(file[place:end]):
+        raise Refused(19)
     return file[place:end]
 
 

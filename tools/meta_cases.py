@@ -1,8 +1,11 @@
-"""Writes the files that crates/meta_cases reads, and what it is to print, by the Python reader of tools/hpcdb.py."""
+"""Writes the files that crates/meta_cases reads, and what it is to print, by the Python reader of tools/hpcdb.py. Next to each file with
+other strings stand lines that the rules give it, written by hand."""
 import os
 from hpcdb import *
 
 HERE = os.path.join(os.path.dirname(os.path.abspath(__file__)), "..", "crates", "meta_cases")
+# what the program hands in for a function without a name: no UTF-8
+PLACEHOLDER = b"\xff"
 
 
 def place_strings(texts, at):
@@ -93,11 +96,12 @@ S, P = sample()
 cases = []
 
 
-def case(name, *edits):
+def case(name, *edits, gives=()):
+    """gives: of some lines the words up to the answer's number, and the string."""
     f = S
     for at, data in edits:
         f = poke(f, at, data)
-    cases.append((name + ".db", f))
+    cases.append((name + ".db", f, gives))
 
 
 STRINGS_END = P["strings"] + P["strings-size"]
@@ -141,10 +145,53 @@ case("two-array-and-string-of-metric", (P["metric"], u(8, 0)), (P["metric"] + 16
 case("two-outer-string-and-inner-array", (P["metric"], u(8, 0)), (P["scope"] + 16, u(8, P["summary"] + 2)))
 case("two-scope-string-and-summary-string", (P["scope"], u(8, 0)), (P["summary"], u(8, 0)))
 case("two-opening-and-string", (P["metrics"] + 13, bytes([20])), (P["general"], u(8, 0)))
+# where the first string of each sort lies, by the words that its line begins with
+TEXT = {words: number(S, at, 8) for words, at in (
+    ("title", P["general"]), ("description", P["general"] + 8), ("kind 0", P["names"] + 16), ("module 0", P["module"] + 8),
+    ("source 0", P["file"] + 8), ("function 0", P["function"]),
+    ("metric 0", P["metric"]), ("scope 0 0", P["scope"]), ("summary 0 0 0", P["summary"]))}
+# UTF-8: the first and the last character of two, three and four bytes, those beside the surrogates, a byte order mark; no character at all
+SPELLED = (
+    ("title", b"\xc3\xa9", "\u00e9rvey of a solver"),
+    ("description", b"\xef\xbb\xbf", "\ufeffwo ranks"),
+    ("kind 0", b"\xf4\x8f\xbf\xbf", "\U0010ffff"),
+    ("module 0", b"\xc2\x80\xdf\xbf\xe0\xa0\x80", "\u0080\u07ff\u0800bsolver.so"),
+    ("source 0", b"\xed\x9f\xbf\xee\x80\x80", "\ud7ff\ue000lve.c"),
+    ("function 0", b"\xf0\x90\x80\x80", "\U00010000e"),
+    ("metric 0", b"\xef\xbf\xbf", "\uffffles"),
+    ("scope 0 0", b"\xe2\x82\xac\xc3\xa9", "\u20ac\u00e9"),
+    ("summary 0 0 0", b"\xc3\xa9", "\u00e9"))
+case("utf-8", *[(TEXT[words], data) for words, data, _ in SPELLED], gives=[(words + " 0", text) for words, _, text in SPELLED])
+case("utf-8-no-character", *[(at, b"\0") for at in TEXT.values()], gives=[(words + " 0", "") for words in TEXT])
+# 19 at each of the nine strings, a Latin-1 letter; what stands beside it or below it is handed back
+for words, beside in (
+        ("title", ("description 0", "# two ranks")), ("description", ("title 0", "survey of a solver")), ("kind 0", ("kind 1 0", "RANK")),
+        ("module 0", ("module 1 0", "/bin/app")), ("source 0", ("source 1 0", "src/main.c")), ("function 0", ("function 1 0", PLACEHOLDER)),
+        ("metric 0", ("scope 0 0 0", "point")), ("scope 0 0", ("summary 0 0 0 0", "$$")), ("summary 0 0 0", ("summary 0 0 1 0", "($$^2)"))):
+    case("latin-1-" + words.replace(" ", "-"), (TEXT[words], b"\xe9"), gives=[(words + " 19", ""), beside])
+case("latin-1-last-byte", (S.index(b"\0", TEXT["module 0"]) - 1, b"\xe9"), gives=[("module 0 19", "")])
+# 19: longer than need be, surrogates, above 10FFFF, bytes of no character, characters that the NUL or the next one cuts
+for data in (b"\xc0\xaf", b"\xc1\xbf", b"\xe0\x9f\xbf", b"\xf0\x8f\xbf\xbf", b"\xed\xa0\x80", b"\xed\xbf\xbf", b"\xf4\x90\x80\x80",
+             b"\xf5\x80\x80\x80", b"\xff", b"\x80", b"\xc3\xa9\xa9", b"\xc3\0", b"\xe2\x82\0", b"\xf0\x9f\x98\0", b"\xe2\x82\xc3\xa9"):
+    case("spelling-" + data.hex("-"), (TEXT["module 0"], data), gives=[("module 0 19", "")])
+case("spelling-within-a-character", (TEXT["module 0"], b"\xc3\xa9"), (P["module"] + 8, u(8, TEXT["module 0"] + 1)), gives=[("module 0 19", "")])
+# 19 and what comes before it
+case("two-spelling-and-no-nul", (STRINGS_END - 1, b"\xe9"), (P["function"], u(8, STRINGS_END - 1)), gives=[("function 0 8", "")])
+case("two-spelling-and-no-nul-of-description", (TEXT["description"], b"\xe9"), (P["general"] + P["general-size"] - 1, b"!"),
+     gives=[("description 8", "")])
+case("two-spelling-and-link", (TEXT["function 0"], b"\xe9"), (P["function"] + 8, u(8, P["module"] + 1)), gives=[("function 0 9", "")])
+case("two-spelling-and-array-of-metric", (TEXT["metric 0"], b"\xe9"), (P["metric"] + 16, u(8, P["scope"] + 4)),
+     gives=[("metric 0 7", ""), ("scope 0 0 7", "")])
+case("two-spelling-and-array-of-scope", (TEXT["scope 0 0"], b"\xe9"), (P["scope"] + 16, u(8, P["summary"] + 2)),
+     gives=[("metric 0 0", "cycles"), ("scope 0 0 7", ""), ("summary 0 0 0 7", "")])
+case("two-spelling-of-metric-and-scope", (TEXT["metric 0"], b"\xe9"), (TEXT["scope 0 0"], b"\xe9"),
+     gives=[("metric 0 19", ""), ("scope 0 0 19", ""), ("summary 0 0 0 0", "$$")])
+case("two-string-of-metric-and-spelling-of-scope", (P["metric"], u(8, 0)), (TEXT["scope 0 0"], b"\xe9"),
+     gives=[("metric 0 8", ""), ("scope 0 0 19", "")])
 # it does not open
 case("footer", (len(S) - 1, b"!"))
-cases.append(("empty.db", b""))
-cases.append(("cut.db", S[:len(S) // 2]))
+cases.append(("empty.db", b"", ()))
+cases.append(("cut.db", S[:len(S) // 2], ()))
 
 
 def show(file):
@@ -168,7 +215,7 @@ def show(file):
     for i in range(counts[4] + 1):
         *numbers, name = answer(4, lambda: function(file, i))
         which = 100 if name is None else numbers[0]
-        line(b"function", i, *numbers, which, b"(none)" if name is None else name)
+        line(b"function", i, *numbers, which, PLACEHOLDER if name is None else name)
     for m in range(counts[1] + 1):
         code, n, name = answer(1, lambda: metric(file, m))
         line(b"metric", m, code, n, name)
@@ -180,15 +227,25 @@ def show(file):
     return b"".join(out)
 
 
+def is_given(words, text, lines):
+    begin, end = (words + " ").encode(), b" " + (text if isinstance(text, bytes) else text.encode())
+    return any(line.startswith(begin) and line.endswith(end) for line in lines)
+
+
 if __name__ == "__main__":
+    printed = b""
+    for name, file, gives in cases:
+        lines = show(file)
+        for words, text in gives:
+            assert is_given(words, text, lines.split(b"\n")), (name, words, text)
+        printed += b"file " + name.encode() + b"\n" + lines
     os.makedirs(os.path.join(HERE, "data"), exist_ok=True)
     for old in os.listdir(os.path.join(HERE, "data")):
         os.remove(os.path.join(HERE, "data", old))
-    for name, file in cases:
+    for name, file, _ in cases:
         with open(os.path.join(HERE, "data", name), "wb") as f:
             f.write(file)
     with open(os.path.join(HERE, "data", "list"), "w") as f:
-        f.write("".join(name + "\n" for name, _ in cases))
+        f.write("".join(name + "\n" for name, _, _ in cases))
     with open(os.path.join(HERE, "stdout"), "wb") as f:
-        for name, file in cases:
-            f.write(b"file " + name.encode() + b"\n" + show(file))
+        f.write(printed)

@@ -1,6 +1,6 @@
 -- A block by its tests and by facts: what each answer of its check says, and what a lookup in a well-formed block says.
 use Prim.Native.Nat.{ℕ, zero, suc, _+_, _-_, _*_, _<_}
-use mathlib.Core.Bool.{true, _&&_}
+use mathlib.Core.Bool.{Bool, true, false, _&&_}
 use mathlib.Core.List.{List}
 use mathlib.Core.Logic.{_↔_, _⊎_, inl, inr, ⊎-elim, ⊎-map}
 use mathlib.Core.Path.{_≡_, refl, sym, ap, _∙_}
@@ -11,12 +11,13 @@ use Rattle.range.specs.Range.{multiple}
 use Rattle.range.proofs.Tests.{both, multiple-iff}
 use Rattle.outside.specs.Outside.{lies}
 use Rattle.outside.proofs.Apart.{lies-iff}
+use Rattle.refusal.specs.declared.Refusal.{Refusal}
 use Rattle.refusal.specs.declared.Refusal.the-variants as No
 use Rattle.refusal.specs.declared.Check.{Check}
 use Rattle.refusal.specs.declared.Check.the-variants.{Passed, Refused}
 use Rattle.refusal.specs.Check.{either, rule, first}
 use Rattle.refusal.proofs.Numbers.{7-is-not-11}
-use Rattle.refusal.proofs.Checks.{Decides, rule-decides, both-hold, first-broken, second-broken}
+use Rattle.refusal.proofs.Checks.{Decides, rule-decides, first-decides, both-hold, first-broken, second-broken}
 use Rattle.seq.specs.declared.Position.{Position}
 use Rattle.seq.specs.declared.Position.the-variants.{At, Nowhere}
 use Rattle.seq.specs.Sequence.{position}
@@ -24,8 +25,9 @@ use Rattle.seq.proofs.Search.{position-at, position-below, position-key}
 use Rattle.block.specs.declared.Shape.{Shape}
 use Rattle.block.specs.declared.Block.{Block}
 use Rattle.block.specs.declared.Lookup.{Lookup}
+use Rattle.block.specs.declared.Lookup.the-variants as Lookup
 use Rattle.block.specs.declared.Lookup.the-variants.{Found, Absent}
-use Rattle.block.specs.Block.{rangeRule, startOf, endOf, partOf, partAt, outerIds, innerIds, wordAt, orderRule, blockCheck, valueAt, inPart, indexOf, lookupIn}
+use Rattle.block.specs.Block.{rangeRule, startOf, endOf, partOf, partAt, outerIds, innerIds, idAt, wordAt, orderRule, blockCheck, valueAt, inPart, indexOf, lookupIn}
 use Rattle.block.specs.OrderKept.{OrderKept}
 use Rattle.block.specs.Facts.{RangesKept, WellFormed, Holds}
 use Rattle.block.proofs.Order.{order-iff}
@@ -124,7 +126,32 @@ module _ (file : List ℕ) (h : Shape) (sections : List (List ℕ)) (b : Block) 
       (second-broken (rangeRule file h sections b) (orderRule file h b) ranges-iff (order-iff file h b) 7-is-not-11) in
       (λ e. ⊎-elim (λ k. absurd (7-is-not-11 (k .1 .0))) (λ k. k) (i .0 e), λ k. i .1 (inr k))
 
+  -- it has no refusals but these
+  pub 7-or-11 : (r : Refusal) → blockCheck file h sections b ≡ Refused r → (r ≡ No.Array) ⊎ (r ≡ No.Order)
+  unfolding blockCheck either
+  7-or-11 r e = go (eqb (b .count) 0) e
+    where
+      go : (t : Bool) → either t empty filled ≡ Refused r → (r ≡ No.Array) ⊎ (r ≡ No.Order)
+      go true x = inl (sym (none-decides .refuses r .0 x .0))
+      go false x =
+          ⊎-map (λ k. sym (k .0)) (λ k. sym (k .1 .0))
+          (first-decides (rule (rangeRule file h sections b) No.Array) (rule-decides (rangeRule file h sections b) ranges-iff)
+          (rule-decides (orderRule file h b) (order-iff file h b)) .refuses r .0 x)
+
 -- ---- a lookup
+
+-- it refuses nothing
+pub lookup-answers : (file : List ℕ) (h : Shape) (b : Block) (outer inner : ℕ) (r : Refusal) → lookupIn file h b outer inner ≡ Lookup.Refused r → ⊥
+unfolding lookupIn inPart valueAt
+lookup-answers file h b outer inner r e = go (indexOf file h b outer) e
+  where
+    value : (at : ℕ) (p : Position) → valueAt file h b at p ≡ Lookup.Refused r → ⊥
+    value at (At k) x = let z : _≡_ {A = ℕ} 0 1 = cc in omega arith
+    value at Nowhere x = let z : _≡_ {A = ℕ} 0 1 = cc in omega arith
+
+    go : (p : Position) → inPart file h b inner p ≡ Lookup.Refused r → ⊥
+    go (At i) x = let part = partAt file h b i in value (part .place) (position (idAt (h .inner) file (part .place)) inner (part .length)) x
+    go Nowhere x = let z : _≡_ {A = ℕ} 0 1 = cc in omega arith
 
 -- where the index of an outer id is, there is one, with that id
 pub index-is : (file : List ℕ) (h : Shape) (b : Block) (outer i : ℕ) → indexOf file h b outer ≡ At i

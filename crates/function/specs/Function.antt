@@ -28,7 +28,7 @@ linksKept modules files pName pModule pFile =
     not (eqb pName 0 && (eqb pModule 0 && eqb pFile 0))
     && ((eqb pModule 0 || linked modules pModule) && (eqb pFile 0 || linked files pFile))
 
--- 8: a name that is there is a string in Strings; place and length 0 where none is
+-- 8, then 19: a name that is there is a string in Strings; place and length 0 where none is
 unfoldable pub nameText : List ℕ → (strings : List ℕ) (name : ℕ) → Text
 nameText file strings name = either (eqb name 0) (text.At 0 0) (stringAt file strings name)
 

@@ -1,1 +1,2 @@
 pub mod Function
+pub mod Facts

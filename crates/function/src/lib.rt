@@ -1,5 +1,7 @@
 // meta.db: functions.
 ghost use mathlib.Core.Path.{_≡_};
+ghost use Prim.Native.Nat.{_+_};
+ghost use Rattle.le.specs.Number.{number};
 ghost use Rattle.open.specs.Format.{meta};
 ghost use Rattle.open.specs.Kept.{Sections};
 ghost use Rattle.function.specs.Function.{linksKept, nameText, functionOf, functionIn, functionAt, nameBytes, nameWhich};
@@ -36,17 +38,18 @@ fn links_kept(modules: Array, files: Array, name: u64, module_link: u64, file_li
     !none & (module_kept & file_kept)
 }
 
-// 8, of a name that is there.
-fn name_text(file: &[u8], strings: [u64; 2], name: u64) -> Text
-    ensures { λ r. ⌜ r ≡ nameText (now (file .entry)) strings name ⌝ }
+// 8, then 19, of a name that is there. Its place is read again, by the function that every other string goes through: one caller of
+// `text::find` is what lets the compiler put it in.
+fn name_text(file: &[u8], strings: [u64; 2], at: u64) -> Text
+    ensures { λ r. ⌜ r ≡ nameText (now (file .entry)) strings (number 8 (now (file .entry)) (at + 0)) ⌝ }
 {
-    if name == 0 {
+    if le::u64_at(file, at, 0) == 0 {
         return Text::At {
             place: 0,
             length: 0,
         };
     }
-    text::find(file, strings, name)
+    meta::string_of(file, strings, at, 0)
 }
 
 // The function at a place: its links, then its name.
@@ -59,7 +62,7 @@ fn function_of(file: &[u8], strings: [u64; 2], modules: Array, files: Array, at:
     let file_link = le::u64_at(file, at, 24);
     let line = le::u32_at(file, at, 32) as u64;
     if links_kept(modules, files, name, module_link, file_link) {
-        match name_text(file, strings, name) {
+        match name_text(file, strings, at) {
             Text::At { place, length } => Function::Found {
                 name: place,
                 length,

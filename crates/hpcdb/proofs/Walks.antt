@@ -118,3 +118,7 @@ module _ (file : List ℕ) (m : Marks) (was : Slices) (code : ℕ) (out : List �
 
   pub walk-code-18 : (code ≡ 18) ↔ (Roomy walkCall × (opening meta file ≡ Check.Passed) × MarkFails walkCall)
   walk-code-18 = rw code-is (Iff·trans (refused-code (walkCall .answer) No.Mark) (outcomes walkCall .says-18))
+
+  -- a walk reads no string
+  pub walk-code-19 : code ≡ 19 → ⊥
+  walk-code-19 = rw code-is (λ e. let h = refused-code (walkCall .answer) No.Spelling .0 e in outcomes walkCall .never-19 (h .0) (h .1))

@@ -1,9 +1,12 @@
 -- Demand 2 of lookups: "A lookup with room for its answer hands back a value exactly if the file opens and the asked block is there, well
 -- formed and holds that pair, and then the very bits stored; in such a block without the pair it says absent."
-use Prim.Native.Nat.{ℕ, _+_, _*_, _<_}
+use Prim.Native.Nat.{ℕ, _+_, _*_, _≤_, _<_}
 use mathlib.Core.List.{List}
-use mathlib.Core.Logic.{_↔_}
+use mathlib.Core.Logic.{_↔_, _⊎_}
 use mathlib.Core.Path.{_≡_}
+use Rattle.refusal.specs.declared.Refusal.{Refusal}
+use Rattle.refusal.specs.declared.Refusal.the-variants as No
+use Rattle.refusal.specs.Number.{numberOf}
 use Rattle.open.specs.Format as Format
 use Rattle.open.specs.Names as Section
 use Rattle.open.specs.Opening.{pairs}
@@ -12,7 +15,7 @@ use Rattle.array.specs.Stored.{arrayIn}
 use Rattle.block.specs.declared.Shape.{Shape}
 use Rattle.block.specs.declared.Block.{Block}
 use Rattle.block.specs.declared.Lookup.{Lookup}
-use Rattle.block.specs.declared.Lookup.the-variants.{Found, Absent}
+use Rattle.block.specs.declared.Lookup.the-variants.{Found, Absent, Refused}
 use Rattle.block.specs.Block.{profileShape, cctShape, blockAt}
 use Rattle.block.specs.Facts.{WellFormed, Holds}
 use Rattle.lookup.specs.Lookup.{profileLookup, cctLookup}
@@ -28,6 +31,8 @@ pub record There (f : Format.Format) (h : Shape) (file : List ℕ) (i : ℕ) (b 
 pub record Says (f : Format.Format) (h : Shape) (file : List ℕ) (i outer inner : ℕ) (answer : Lookup) : Type 0 where
   pub found : (bits : ℕ) → (answer ≡ Found bits) ↔ ((b : Block) × (There f h file i b × Holds file h b outer inner bits))
   pub absent : (answer ≡ Absent) ↔ ((b : Block) × (There f h file i b × ((bits : ℕ) → Holds file h b outer inner bits → ⊥)))
+  -- it is refused by 1 to 7, 11 or 15: it reads no string, and gives no 19
+  pub numbers : (r : Refusal) → answer ≡ Refused r → (numberOf r ≤ 7) ⊎ ((r ≡ No.Order) ⊎ (r ≡ No.Index))
 
 -- in profile.db the block of a profile is asked for a context and a metric; in cct.db that of a context for a metric and a profile
 pub record Demand2 : Type 0 where

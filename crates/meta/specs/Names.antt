@@ -25,7 +25,7 @@ use Rattle.meta.specs.declared.SourceFile.the-variants.{Found, Refused}
 unfoldable pub stringOf : List ℕ → (section : List ℕ) (at offset : ℕ) → Text
 stringOf file section at offset = stringAt file section (number 8 file (at + offset))
 
--- of element i: 15, then 8
+-- of element i: 15, then 8, then 19
 unfoldable pub elementText : List ℕ → (section : List ℕ) → Array → (i offset : ℕ) → Text
 elementText file section a i offset = onElement text.Refused (elementAt a i) (λ p. stringOf file section p offset)
 

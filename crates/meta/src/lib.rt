@@ -35,7 +35,7 @@ pub fn string_of(file: &[u8], section: [u64; 2], at: u64, offset: u64) -> Text
     text::find(file, section, le::u64_at(file, at, offset))
 }
 
-// The same of element i of an array: 15, then 8.
+// The same of element i of an array: 15, then 8, then 19.
 fn element_text(file: &[u8], section: [u64; 2], a: Array, i: u64, offset: u64) -> Text
     requires { ⌜ Bounded a ⌝ }
     ensures { λ r. ⌜ r ≡ elementText (now (file .entry)) section a i offset ⌝ }

@@ -7,7 +7,8 @@ use metric::Metric;
 use metric::Scope;
 use metric::Summary;
 
-const PLACEHOLDER: [u8; 6] = *b"(none)";
+// No UTF-8: it is handed back whole all the same.
+const PLACEHOLDER: [u8; 1] = [0xFF];
 
 fn word(n: u64) {
     io::write_all(STDOUT_FILENO, b" ");

@@ -108,7 +108,7 @@ fn scope_nested(file: &[u8], sections: &[[u64; 2]; 8], m: u64, s: u64) -> Nested
     }
 }
 
-// What is answered of each level's element: its string (8) and its numbers.
+// What is answered of each level's element: its string (8, then 19) and its numbers.
 fn metric_found(file: &[u8], section: [u64; 2], at: u64, scopes: u64) -> Metric
     ensures { λ r. ⌜ r ≡ metricFound (now (file .entry)) section at scopes ⌝ }
 {

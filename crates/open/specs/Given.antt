@@ -67,3 +67,4 @@ module _ (f : Format) (file : List ℕ) where
   Given No.NotFinite = ⊥
   Given No.Room = ⊥
   Given No.Mark = ⊥
+  Given No.Spelling = ⊥

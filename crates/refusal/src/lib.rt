@@ -22,6 +22,7 @@ pub enum Refusal {
     NotFinite,
     Room,
     Mark,
+    Spelling,
 }
 
 // The number of a refusal: the only function that goes by its cases.
@@ -47,6 +48,7 @@ pub fn number(r: Refusal) -> u64
         Refusal::NotFinite => 16,
         Refusal::Room => 17,
         Refusal::Mark => 18,
+        Refusal::Spelling => 19,
     }
 }
 

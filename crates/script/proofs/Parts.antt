@@ -5,8 +5,8 @@ use mathlib.Core.Path.{_≡_, ap, _∙_}
 use native.Mathlib.Omega.{arith}
 use lib.ListN.{length, take, drop, length-drop, drop-of-length-le}
 use lib.Seq.{take-all, take-nil, length-take-le}
-use Rattle.text.specs.String.{until}
-use Rattle.text.proofs.Laws.{until-most}
+use Rattle.scan.specs.Until.{until}
+use Rattle.scan.proofs.Laws.{until-most}
 use Rattle.script.specs.Line.{partAt}
 
 module _ (stop : ℕ) (list : List ℕ) (at : ℕ) where

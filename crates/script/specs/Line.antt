@@ -2,7 +2,7 @@
 use Prim.Native.Nat.{ℕ, _+_, _-_, _*_, _^_, _%_, min}
 use mathlib.Core.List.{List, [], _∷_}
 use lib.ListN.{take, drop}
-use Rattle.text.specs.String.{until}
+use Rattle.scan.specs.Until.{until}
 
 -- the bytes from a place to just before the first that is `stop`, or to the end
 unfoldable pub partAt : (stop : ℕ) → List ℕ → (at : ℕ) → List ℕ

@@ -12,7 +12,7 @@ fn part(stop: u8, list: &[u8], at: usize) -> &[u8]
     if list.len() <= at {
         return &list[..0];
     }
-    let n = text::until(stop, &list[at..]);
+    let n = scan::until(stop, &list[at..]);
     let to = at + n;
     &list[at..to]
 }

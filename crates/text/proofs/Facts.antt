@@ -1,67 +1,54 @@
--- Strings by plain facts about bytes: the search for a byte first, then the bytes of a section as those of the file.
-use Prim.Native.Nat.{ℕ, zero, suc, _+_, _-_, _≤_, _<_}
-use mathlib.Core.Bool.{Bool, true, false}
-use mathlib.Core.List.{List, [], _∷_}
+-- Strings by plain facts about bytes: the bytes of a section are those of the file, and the first NUL among them decides.
+use Prim.Native.Nat.{ℕ, _+_, _-_, _≤_, _<_}
+use mathlib.Core.List.{List}
 use mathlib.Core.Logic.{_↔_}
-use mathlib.Core.Path.{_≡_, refl, sym, ap, _∙_}
+use mathlib.Core.Path.{_≡_, refl, sym, ap, subst, _∙_}
 use native.Mathlib.Decide.{decLe}
 use native.Mathlib.Omega.{arith}
-use borrow.Author.Tests.{ltb-true, lt-ltb, eqb-true, eqb-false, eq-eqb, ne-eqb}
-use lib.Dec.{ltb, eqb}
-use lib.ListN.{length, getD, drop}
-use lib.Seq.{getD-take, getD-drop}
+use lib.ListN.{length, getD, take, drop}
+use lib.Seq.{getD-take, getD-drop, take-take}
 use Rattle.refusal.specs.declared.Refusal.the-variants as No
-use Rattle.refusal.specs.Check.{either}
+use Rattle.scan.specs.Facts.{FirstIs}
+use Rattle.utf8.specs.declared.Utf8.{Utf8}
+use Rattle.utf8.specs.declared.Utf8.the-variants.{Valid, Invalid, Unterminated}
+use Rattle.utf8.specs.Terminated.{terminated}
+use Rattle.utf8.specs.Encoding.{Encoded}
+use Rattle.utf8.proofs.Facts.{valid-iff, invalid-iff, unterminated-iff}
 use Rattle.text.specs.declared.Text.the-variants.{At, Refused}
-use Rattle.text.specs.String.{until, untilNul, bytesFrom, textOf, stringAt}
-use Rattle.text.specs.Facts.{FirstIs, IsString}
-use Rattle.text.proofs.Laws.{outside, from-place, count, no-nul}
+use Rattle.text.specs.String.{bytesFrom, textOf, stringAt}
+use Rattle.text.specs.Facts.{IsString, PlaceSays}
+use Rattle.text.proofs.Laws.{outside, from-place, count}
 
-until-first : (stop : ℕ) (bytes : List ℕ) → until stop bytes < length bytes → FirstIs stop bytes (until stop bytes)
-unfolding until either
-until-first stop [] h = absurd (omega arith)
-until-first stop (b ∷ bytes) h = go (eqb b stop) refl h (until-first stop bytes)
-  where
-    go : (t : Bool) → eqb b stop ≡ t → either t 0 (suc (until stop bytes)) < suc (length bytes)
-        → (until stop bytes < length bytes → FirstIs stop bytes (until stop bytes)) → FirstIs stop (b ∷ bytes) (either t 0 (suc (until stop bytes)))
-    go true e h r = record { inside = h; here = eqb-true b stop e; none-before = λ j l. absurd (omega arith) }
-    go false e h r = let first = r (omega arith) in record { inside = h; here = first .here; none-before = each first }
-      where
-        each : FirstIs stop bytes (until stop bytes) → (j : ℕ) → j < suc (until stop bytes) → getD (b ∷ bytes) j 0 ≡ stop → ⊥
-        each first zero l = eqb-false b stop e
-        each first (suc j) l = first .none-before j (omega arith)
+-- ---- an answer tells what was found
 
-first-until : (stop : ℕ) (bytes : List ℕ) (n : ℕ) → FirstIs stop bytes n → until stop bytes ≡ n
-unfolding until either
-first-until stop [] n f = absurd (omega (arith, f .inside))
-first-until stop (b ∷ bytes) zero f = rw (eq-eqb b stop (f .here))
-first-until stop (b ∷ bytes) (suc n) f =
-    let later : FirstIs stop bytes n =
-    record { inside = omega (arith, f .inside); here = f .here; none-before = λ j l. f .none-before (suc j) (omega arith) } in
-    rw (ne-eqb b stop (f .none-before 0 (omega arith))) (ap suc (first-until stop bytes n later))
-
--- n bytes stand before the first that is `stop`, and not all, exactly if byte n is it
-pub until-iff : (stop : ℕ) (bytes : List ℕ) (n : ℕ) → ((until stop bytes ≡ n) × (n < length bytes)) ↔ FirstIs stop bytes n
-until-iff stop bytes n = (
-  λ h. rw (h .0) at (until-first stop bytes (omega (arith, h .0, h .1))),
-  λ f. (first-until stop bytes n f, f .inside),
+text-at-iff : (place p n : ℕ) (u : Utf8) → (textOf place u ≡ At p n) ↔ ((p ≡ place) × (u ≡ Valid n))
+unfolding textOf
+text-at-iff place p n (Valid m) = (
+  λ e. (let y : place ≡ p = cc in sym y, let z : m ≡ n = cc in ap Valid z),
+  λ h. let z : m ≡ n = cc in rw (h .0, z),
+)
+text-at-iff place p n Invalid = (
+  λ e. absurd (let z : _≡_ {A = ℕ} 0 1 = cc in omega arith),
+  λ h. absurd (let y = h .1 in let z : _≡_ {A = ℕ} 0 1 = cc in omega arith),
+)
+text-at-iff place p n Unterminated = (
+  λ e. absurd (let z : _≡_ {A = ℕ} 0 1 = cc in omega arith),
+  λ h. absurd (let y = h .1 in let z : _≡_ {A = ℕ} 0 1 = cc in omega arith),
 )
 
-text-iff : (bytes : List ℕ) (place p n : ℕ) → (textOf bytes place ≡ At p n) ↔ ((p ≡ place) × FirstIs 0 bytes n)
-unfolding textOf either
-text-iff bytes place p n = (λ e. go (ltb (untilNul bytes) (length bytes)) refl e, λ h. back (h .0) (until-iff 0 bytes n .1 (h .1)))
-  where
-    go : (t : Bool) → ltb (untilNul bytes) (length bytes) ≡ t → either t (At place (untilNul bytes)) (Refused No.String) ≡ At p n
-        → (p ≡ place) × FirstIs 0 bytes n
-    go true h e =
-        let y : place ≡ p = cc in
-        let z : untilNul bytes ≡ n = cc in
-        (sym y, until-iff 0 bytes n .0 (z, omega (arith, z, ltb-true (untilNul bytes) (length bytes) h)))
-    go false h e = absurd (let z : _≡_ {A = ℕ} 0 1 = cc in omega arith)
+8-iff : (place : ℕ) (u : Utf8) → (textOf place u ≡ Refused No.String) ↔ (u ≡ Unterminated)
+unfolding textOf
+8-iff place (Valid m) = (λ e. absurd (let z : _≡_ {A = ℕ} 0 1 = cc in omega arith), λ e. absurd (let z : _≡_ {A = ℕ} 0 1 = cc in omega arith))
+8-iff place Invalid = (λ e. absurd (let z : _≡_ {A = ℕ} 0 1 = cc in omega arith), λ e. absurd (let z : _≡_ {A = ℕ} 0 1 = cc in omega arith))
+8-iff place Unterminated = (λ e. refl, λ e. refl)
 
-    back : p ≡ place → (untilNul bytes ≡ n) × (n < length bytes)
-        → either (ltb (untilNul bytes) (length bytes)) (At place (untilNul bytes)) (Refused No.String) ≡ At p n
-    back e h = rw (h .0, lt-ltb n (length bytes) (h .1), e)
+19-iff : (place : ℕ) (u : Utf8) → (textOf place u ≡ Refused No.Spelling) ↔ (u ≡ Invalid)
+unfolding textOf
+19-iff place (Valid m) = (λ e. absurd (let z : _≡_ {A = ℕ} 0 1 = cc in omega arith), λ e. absurd (let z : _≡_ {A = ℕ} 0 1 = cc in omega arith))
+19-iff place Invalid = (λ e. refl, λ e. refl)
+19-iff place Unterminated = (λ e. absurd (let z : _≡_ {A = ℕ} 0 1 = cc in omega arith), λ e. absurd (let z : _≡_ {A = ℕ} 0 1 = cc in omega arith))
+
+-- ---- the bytes of a section
 
 module _ (file section : List ℕ) (place : ℕ) where
   abbrev part : List ℕ
@@ -99,22 +86,39 @@ module _ (file section : List ℕ) (place : ℕ) where
     },
   )
 
--- the answer is a place and a length exactly if the place is the one asked for and a string of that length is there
-pub string-iff : (file section : List ℕ) (place p n : ℕ) → (stringAt file section place ≡ At p n) ↔ ((p ≡ place) × IsString file section place n)
-unfolding stringAt
-string-iff file section place p n =
-    let t = text-iff (bytesFrom file section place) place p n in
-    let i = first-iff file section place n in
-    (λ e. (t .0 e .0, i .0 (t .0 e .1)), λ h. t .1 (h .0, i .1 (h .1)))
+  -- the string's bytes are the file's
+  same-bytes : (n : ℕ) → FirstIs 0 part n → take n part ≡ take n (drop place file)
+  same-bytes n f =
+      let s = first-iff n .0 f in
+      let most : n ≤ getD section 0 0 + getD section 1 0 - place = omega (arith, s .ends, s .starts) in
+      rw (from-place file section place (s .starts)) (take-take n (getD section 0 0 + getD section 1 0 - place) (drop place file) most)
 
--- it is refused exactly if no string is there, of any length
-pub no-string-iff : (file section : List ℕ) (place : ℕ)
-    → (stringAt file section place ≡ Refused No.String) ↔ ((n : ℕ) → IsString file section place n → ⊥)
-no-string-iff file section place =
-    let bytes = bytesFrom file section place in (
-      λ e n s. let found = string-iff file section place place n .1 (refl, s) in let z : _≡_ {A = ℕ} 0 1 = cc in omega arith,
-      λ h. elim (decLe (length bytes) (untilNul bytes)) [
-        | yes l ↦ sym (no-nul file section place l)
-        | no l ↦ absurd (h (untilNul bytes) (first-iff file section place (untilNul bytes) .0 (until-first 0 bytes (omega arith))))
-      ],
-    )
+  -- a place that is asked for is read
+  pub string-says : PlaceSays file (record { section = section; place = place; Read = Unit }) (stringAt file section place)
+  unfolding stringAt
+  string-says = record {
+    handed-back = λ p n. (
+      λ e.
+          let told = text-at-iff place p n (terminated part) .0 e in
+          let good = valid-iff part n .0 (told .1) in
+          (tt, (told .0, (first-iff n .0 (good .0), subst Encoded (same-bytes n (good .0)) (good .1)))),
+      λ h.
+          let text = h .1 .1 in
+          let f = first-iff n .1 (text .0) in
+          text-at-iff place p n (terminated part) .1 (h .1 .0, valid-iff part n .1 (f, subst Encoded (sym (same-bytes n f)) (text .1))),
+    );
+    is-8 = (
+      λ e. (tt, λ n s. unterminated-iff part .0 (8-iff place (terminated part) .0 e) n (first-iff n .1 s)),
+      λ h. 8-iff place (terminated part) .1 (unterminated-iff part .1 (λ n f. h .1 n (first-iff n .0 f))),
+    );
+    is-19 = (
+      λ e.
+          let bad = invalid-iff part .0 (19-iff place (terminated part) .0 e) in
+          let f = bad .1 .0 in
+          (tt, (bad .0, (first-iff (bad .0) .0 f, λ u. bad .1 .1 (subst Encoded (sym (same-bytes (bad .0) f)) u)))),
+      λ h.
+          let n = h .1 .0 in
+          let f = first-iff n .1 (h .1 .1 .0) in
+          19-iff place (terminated part) .1 (invalid-iff part .1 (n, (f, λ u. h .1 .1 .1 (subst Encoded (same-bytes n f) u)))),
+    );
+  }

@@ -1,56 +1,14 @@
 // Strings in a section of a file.
-ghost use Prim.Native.Nat.{_+_, _≤_};
 ghost use mathlib.Core.Path.{_≡_};
-ghost use lib.Dec.{leb};
 ghost use lib.ListN.{length, take, drop};
-ghost use Rattle.text.specs.String.{until, bytesFrom, stringAt, textCode, textBytes};
+ghost use Rattle.text.specs.String.{bytesFrom, stringAt, textCode, textBytes};
 use refusal::Refusal;
+use utf8::Utf8;
 
 // Where a string stands, without its NUL; or the refusal.
 pub enum Text {
     At { place: u64, length: u64 },
     Refused(refusal::Refusal),
-}
-
-// Whether none of the eight bytes from i on is `stop`. By `&`, so that one vector comparison serves.
-fn none_of_eight(stop: u8, bytes: &[u8], i: usize) -> bool
-    requires { ⌜ i + 8 ≤ length (now bytes) ⌝ }
-    ensures { λ r. ⌜ r ≡ leb 8 (until stop (drop i (now (bytes .entry)))) ⌝ }
-{
-    (bytes[i] != stop)
-        & (bytes[i + 1] != stop)
-        & (bytes[i + 2] != stop)
-        & (bytes[i + 3] != stop)
-        & (bytes[i + 4] != stop)
-        & (bytes[i + 5] != stop)
-        & (bytes[i + 6] != stop)
-        & (bytes[i + 7] != stop)
-}
-
-// A place before which no byte is `stop`, as far as groups of eight tell.
-fn skip(stop: u8, bytes: &[u8]) -> usize
-    ensures { λ r. ⌜ r ≤ length (now (bytes .entry)) ⌝ }
-    ensures { λ r. ⌜ r + until stop (drop r (now (bytes .entry))) ≡ until stop (now (bytes .entry)) ⌝ }
-{
-    let mut i = 0;
-    while 8 <= bytes.len() - i && none_of_eight(stop, bytes, i) {
-        i += 8;
-    }
-    i
-}
-
-// How many bytes stand before the first that is `stop`; all where none is.
-pub fn until(stop: u8, bytes: &[u8]) -> usize
-    ensures { λ r. ⌜ r ≡ until stop (now (bytes .entry)) ⌝ }
-{
-    let mut i = skip(stop, bytes);
-    while i < bytes.len() {
-        if bytes[i] == stop {
-            return i;
-        }
-        i += 1;
-    }
-    i
 }
 
 // How many bytes a section has from a place on.
@@ -77,7 +35,7 @@ fn count_from(file: &[u8], section: [u64; 2], place: u64) -> usize
     }
 }
 
-// The string at a place of a section.
+// The string at a place of a section: 8, then 19.
 pub fn find(file: &[u8], section: [u64; 2], place: u64) -> Text
     ensures { λ r. ⌜ r ≡ stringAt (now (file .entry)) section place ⌝ }
 {
@@ -87,14 +45,13 @@ pub fn find(file: &[u8], section: [u64; 2], place: u64) -> Text
     }
     let from = place as usize;
     let to = from + n;
-    let length = until(0, &file[from..to]);
-    if length < n {
-        Text::At {
+    match utf8::check(&file[from..to]) {
+        Utf8::Valid(length) => Text::At {
             place,
             length: length as u64,
-        }
-    } else {
-        Text::Refused(Refusal::String)
+        },
+        Utf8::Invalid => Text::Refused(Refusal::Spelling),
+        Utf8::Unterminated => Text::Refused(Refusal::String),
     }
 }
 

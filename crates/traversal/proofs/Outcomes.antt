@@ -322,6 +322,14 @@ module _ {file : List ℕ} (c : Call file) where
           of (inr s) = absurd (omega (arith, ap numberOf (s .0)))
       go (inr s) = absurd (omega (arith, ap numberOf (s .0)))
 
+  no-spelling : (n : ℕ) → c .answer ≡ Refused No.Spelling n → ⊥
+  no-spelling n q = go (high No.Spelling n q (omega arith))
+    where
+      go : (walkCheck a ≡ Check.Refused No.Spelling) ⊎ ((No.Spelling ≡ No.Mark) × NotOnTrail) → ⊥
+      go (inl e) =
+          elim (check-refused a No.Spelling e (omega arith)) [ inl s ↦ omega (arith, ap numberOf (s .0)) | inr s ↦ omega (arith, ap numberOf (s .0)) ]
+      go (inr s) = omega (arith, ap numberOf (s .0))
+
   only-18 : ((n : ℕ) × (c .answer ≡ Refused No.Mark n)) ↔ (Roomy c × (opening meta file ≡ Check.Passed) × MarkFails c)
   only-18 = (λ x. go (high No.Mark (x .0) (x .1) (omega arith)), λ x. (0, back (x .0) (x .1) (x .2)))
     where
@@ -350,6 +358,7 @@ module _ {file : List ℕ} (c : Call file) where
     refused-first = λ path b r l e f. cleared (begun-passes c path b) (lost-on path b _ e f) r (ap unpassed e);
     says-17 = only-17;
     says-18 = only-18;
+    never-19 = no-spelling;
     from-roots = from-depth-0;
     goes-on = from-context;
     hands-out = stands-new;

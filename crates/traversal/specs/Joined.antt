@@ -72,6 +72,8 @@ module _ {file : List ℕ} (c : Call file) where
     -- 17 and 18 for nothing else
     pub says-17 : ((n : ℕ) × (c .answer ≡ Refused No.Room n)) ↔ ((c .marks .asks ≡ true) × (length (c .was .mark) < 805))
     pub says-18 : ((n : ℕ) × (c .answer ≡ Refused No.Mark n)) ↔ (Roomy × (opening meta file ≡ Check.Passed) × MarkFails)
+    -- a walk reads no string
+    pub never-19 : (n : ℕ) → c .answer ≡ Refused No.Spelling n → ⊥
     -- "fills the table afresh for everything up to that new mark, and lists from just after the mark": from depth 0 the whole trail, and else
     -- what follows the context that the mark names
     pub from-roots : Begun [] → (trailFrom (asked c) ≡ traversal (asked c)) × ListsAndFills contexts (fitting contexts)

@@ -2,6 +2,7 @@
 #include "meta.h"
 
 #include "plain.h"
+#include "utf8.h"
 
 static const struct format format = {"HPCTOOLKITmeta", "_meta.db", SECTION_COUNT};
 
@@ -97,6 +98,8 @@ static uint32_t read_text(const struct meta *meta, enum section which, uint64_t 
     const uint8_t *nul = memchr(start, 0, section->end - place);
     if (nul == NULL)
         return HPCDB_STRING;
+    if (!is_utf8(start, nul))
+        return HPCDB_SPELLING;
     text[0] = place;
     text[1] = (uint64_t)(nul - start);
     return HPCDB_OK;

@@ -2,6 +2,7 @@
 //! questions are asked of all three and their answers compared.
 
 mod damaged;
+mod paths;
 mod plain;
 mod questions;
 mod rows;
@@ -25,9 +26,15 @@ fn main() -> ExitCode {
         return ExitCode::from(2);
     }
     let mut run = Run::new(timed, wanted);
-    for group in
-        [rows::walks, rows::single_lookups, rows::batch_lookups, rows::openings, rows::small_answers, rows::writes]
-    {
+    for group in [
+        rows::walks,
+        rows::single_lookups,
+        rows::batch_lookups,
+        rows::openings,
+        rows::small_answers,
+        rows::paths,
+        rows::writes,
+    ] {
         group(&mut run);
     }
     if run.rows == 0 {

@@ -6,6 +6,7 @@ use differential::gen::large;
 use differential::reader::walk::{MARK_ROOM, RECORD_WORDS};
 use differential::{by_reader, ffi, writer};
 
+use crate::paths::{path, with_latin_1, ASCII, MIXED};
 use crate::questions::{random_numbers, random_pairs, regular_pairs, sorted, Ids};
 use crate::run::{row, Run, Side};
 
@@ -162,6 +163,23 @@ pub fn small_answers(run: &mut Run) {
     let what = "trace_at in a line of 1,000,000 samples";
     let times = random_numbers(FEW, large::SAMPLE_INTERVAL * MILLION as u64);
     row!(run, what, &times, [UNWRITTEN; 3], |&time, out| hpcdb_trace_at(&file, 0, time, out));
+}
+
+/// Short paths differ from module to module, so that a branch predictor does not learn one of them.
+pub fn paths(run: &mut Run) {
+    for (kind, text) in [("ASCII", ASCII), ("mixed", MIXED)] {
+        let short: Vec<_> = (0..large::MODULES).map(|n| path(text, n, 40)).collect();
+        path_row(run, &format!("40 bytes, {kind}"), MANY, &short);
+        path_row(run, &format!("100,000 bytes, {kind}"), FEW, &[path(text, 0, 100_000)]);
+    }
+    path_row(run, "100,000 bytes, one of them Latin-1", FEW, &[with_latin_1(path(ASCII, 0, 100_000))]);
+}
+
+fn path_row(run: &mut Run, kind: &str, calls: usize, paths: &[Vec<u8>]) {
+    let what = format!("reading a module whose path has {kind}");
+    let modules = random_numbers(calls, paths.len() as u64);
+    let file = large::modules(paths);
+    row!(run, &what, &modules, [UNWRITTEN; 2], |&i, out| hpcdb_meta_module(&file, i, out));
 }
 
 #[derive(Clone, PartialEq)]

@@ -3,6 +3,7 @@
 
 use std::collections::BTreeMap;
 use std::fmt::Write as _;
+use std::ops::RangeInclusive;
 
 use crate::by_reader::{ABSENT, ANSWERED, CUT};
 use crate::compare::Reply;
@@ -37,7 +38,7 @@ pub struct Tally {
 }
 
 /// Kinds of answers and files that a run has to meet.
-const KINDS: [&str; 53] = [
+const KINDS: [&str; 59] = [
     "sound file",
     "damaged file",
     "sound lists",
@@ -46,6 +47,12 @@ const KINDS: [&str; 53] = [
     "placeholder for a name",
     "copied file",
     "file not copied",
+    "string of no byte",
+    "string with a character of two bytes",
+    "string with a character of three bytes",
+    "string with a character of four bytes",
+    "scope of a metric refused 19",
+    "summary of a scope refused 19",
     "refused 7 with contexts listed",
     "refused 9 with contexts listed",
     "refused 10 with contexts listed",
@@ -111,6 +118,11 @@ impl Tally {
         *self.kinds.entry(kind).or_default() += 1;
     }
 
+    /// Those that were met.
+    fn add_kinds(&mut self, kinds: &[(bool, &'static str)]) {
+        kinds.iter().filter(|(met, _)| *met).for_each(|(_, kind)| self.add_kind(kind));
+    }
+
     pub fn add_case(&mut self, question: &Question, specimen: &Specimen, reply: &Reply) {
         self.cases += 1;
         self.codes[question.function as usize][reply.code as usize] += 1;
@@ -133,6 +145,24 @@ impl Tally {
             }
             _ => {}
         }
+        if let Some(string) = string(question, &specimen.bytes, reply) {
+            self.add_string(question, &specimen.bytes, string);
+        }
+    }
+
+    fn add_string(&mut self, question: &Question, file: &[u8], string: &[u8]) {
+        let [i, j, _] = question.numbers;
+        let of_refused_metric = || meta::metric(file, i).err() == Some(Refusal::Spelling);
+        let of_refused_scope = || meta::scope(file, i, j).err() == Some(Refusal::Spelling);
+        let has = |first_bytes: RangeInclusive<u8>| string.iter().any(|byte| first_bytes.contains(byte));
+        self.add_kinds(&[
+            (string.is_empty(), "string of no byte"),
+            (has(0xc2..=0xdf), "string with a character of two bytes"),
+            (has(0xe0..=0xef), "string with a character of three bytes"),
+            (has(0xf0..=0xf4), "string with a character of four bytes"),
+            (question.function == MetaScope && of_refused_metric(), "scope of a metric refused 19"),
+            (question.function == MetaSummary && of_refused_scope(), "summary of a scope refused 19"),
+        ]);
     }
 
     fn add_walk(&mut self, question: &Question, code: u32, listed: u64) {
@@ -231,14 +261,13 @@ impl Tally {
         lists.entries().iter().for_each(|entry| entries_of[profile_of(entry) as usize] += 1);
         let mut profiles_of = vec![0; lists.tuples.len()];
         lists.profiles.iter().for_each(|tuple| profiles_of[*tuple as usize] += 1);
-        let kinds = [
+        self.add_kinds(&[
             (lists.profiles.is_empty(), "written file of no profile"),
             (entries_of.contains(&0), "written file with a profile of no entry"),
             (entries_of.iter().any(|entries| entries % 2 == 1), "written file with padding"),
             (profiles_of.contains(&0), "written file with a tuple of no profile"),
             (profiles_of.iter().any(|profiles| *profiles > 1), "written file with a tuple of several profiles"),
-        ];
-        kinds.iter().filter(|(met, _)| *met).for_each(|(_, kind)| self.add_kind(kind));
+        ]);
     }
 
     fn of(&self, row: &Row, code: u32) -> u64 {
@@ -290,6 +319,20 @@ impl Tally {
         }
         table
     }
+}
+
+/// The string that was handed back.
+fn string<'a>(question: &Question, file: &'a [u8], reply: &Reply) -> Option<&'a [u8]> {
+    let (place, length) = match (question.function, reply.memory.out.body()) {
+        _ if reply.code != ANSWERED => return None,
+        (MetaFunction, [0, place, length, ..]) => (place, length),
+        (
+            MetaTitle | MetaDescription | MetaIdName | MetaMetric | MetaScope | MetaSummary | MetaModule | MetaFile,
+            [place, length, ..],
+        ) => (place, length),
+        _ => return None,
+    };
+    Some(&file[*place as usize..][..*length as usize])
 }
 
 /// Whether a sample of a sound trace.db has the timestamp of the sample before it.

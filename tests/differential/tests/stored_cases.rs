@@ -95,7 +95,7 @@ impl Show<'_> {
         match meta::function(self.file, i) {
             Ok(f) => {
                 let (which, name) =
-                    f.name.map_or((100, &b"(none)"[..]), |t| (0, &self.file[t.place..t.place + t.length]));
+                    f.name.map_or((100, &b"\xff"[..]), |t| (0, &self.file[t.place..t.place + t.length]));
                 line(&mut self.out, &words, 0, &[f.module, f.offset, f.file, f.line.into(), which], name);
             }
             Err(refusal) => line(&mut self.out, &words, refusal.number(), &[0, 0, 0, 0, refusal.number().into()], b""),

@@ -22,10 +22,10 @@ by-name c =
       ← reads .before .u64-at4 .ensures,
       ← reads .before .before .u64-at3 .ensures,
       ← reads .before .before .before .u64-at2 .ensures,
+      ← c .name-text .ensures,
       ← reads .before .before .before .before .u64-at .ensures,
       ← c .before .before .links-kept .ensures,
       c .before .if1 .taken,
-      ← c .name-text .ensures,
     )
 
 returns : tie.Need-returns

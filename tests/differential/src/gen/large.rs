@@ -1,4 +1,4 @@
-//! Large sound files and lists for the benchmarks: nothing is left to chance but the order of flags.
+//! Large sound files and lists: nothing is left to chance but the order of flags.
 
 use super::rng::Rng;
 use super::tree::needed_words;
@@ -58,6 +58,14 @@ impl Growing {
         array
     }
 
+    /// A header of zeros: no title, no kinds, no contexts.
+    fn empty_section(&mut self) {
+        let start = self.here();
+        self.append(8, 0);
+        self.append(8, 0);
+        self.end_section(start);
+    }
+
     fn finished(mut self) -> Vec<u8> {
         self.bytes[..14].copy_from_slice(magic(self.database));
         self.bytes[14] = 4;
@@ -107,6 +115,27 @@ pub fn meta(contexts: usize, least_siblings: usize, most_siblings: usize) -> Vec
     file.end_section(context);
     // the Context section comes fourth in the header
     file.sections[3..].rotate_right(1);
+    file.finished()
+}
+
+/// A meta.db of nothing but modules, with these paths.
+pub fn modules(paths: &[Vec<u8>]) -> Vec<u8> {
+    let mut file = Growing::new(Database::Meta);
+    file.empty_section();
+    file.empty_section();
+    file.array_section(0, &[(1, 24), (1, 24), (1, 16)], |_, _| {});
+    file.empty_section();
+    let strings = file.here();
+    let mut places = Vec::with_capacity(paths.len());
+    for path in paths {
+        places.push(file.bytes.len() as u64);
+        file.bytes.extend_from_slice(path);
+        file.bytes.push(0);
+    }
+    file.end_section(strings);
+    file.array_section(paths.len(), &[(2, 16)], |file, i| [0, places[i]].iter().for_each(|word| file.append(8, *word)));
+    file.array_section(0, &[(2, 16)], |_, _| {});
+    file.array_section(0, &[(2, 40)], |_, _| {});
     file.finished()
 }
 

@@ -3,6 +3,7 @@
 use super::image::{FieldKind, Image};
 use super::plan::{Piece, Places, Plan, Section};
 use super::rng::Rng;
+use super::text::text;
 use super::tree::{grown, needed_words, Tree};
 use super::{count, framed, header_end, stride, Specimen};
 use crate::question::Database;
@@ -27,9 +28,8 @@ impl Texts {
     fn plan(rng: &mut Rng, plan: &mut Plan, section: Section, most: usize) -> Texts {
         let count = if rng.one_in(8) { 0 } else { rng.between(1, most) };
         let mut one = || {
-            let length = rng.pick(&[0, 1, 3, 8, 15, 40]);
-            let text: Vec<u8> = (0..length).map(|_| rng.between(1, 255) as u8).collect();
-            (plan.inside(section, length + 1, 1), text)
+            let text = text(rng);
+            (plan.inside(section, text.len() + 1, 1), text)
         };
         Texts((0..count).map(|_| one()).collect())
     }

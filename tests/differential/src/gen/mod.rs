@@ -10,6 +10,7 @@ mod meta;
 mod plan;
 mod questions;
 mod rng;
+mod text;
 mod trace;
 mod tree;
 

@@ -17,7 +17,7 @@ mod text;
 pub use bytes::Span;
 pub use text::Text;
 
-/// Why a file, an element or a question is refused; the discriminants are document 01's numbers.
+/// Why a file, an element or a question is refused; the discriminants are the numbers of documents 01 and 02.
 #[derive(Clone, Copy, PartialEq, Eq, Debug)]
 pub enum Refusal {
     Short = 1,
@@ -38,6 +38,7 @@ pub enum Refusal {
     NotFinite,
     Room,
     Mark,
+    Spelling,
 }
 
 impl Refusal {

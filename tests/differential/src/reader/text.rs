@@ -1,4 +1,4 @@
-//! Strings: the bytes from a place to just before the first NUL.
+//! Strings: the bytes from a place to just before the first NUL, which are UTF-8.
 
 use std::ffi::CStr;
 
@@ -12,11 +12,12 @@ pub struct Text {
     pub length: usize,
 }
 
-/// The string at `place`, which must start in the section and end there, NUL included.
+/// The string at `place`, which must start in the section and end there, NUL included, and be UTF-8.
 pub fn text(file: &[u8], section: Span, place: u64) -> Result<Text, Refusal> {
     let rest = section_from(file, section, place).ok_or(Refusal::String)?;
     let found = CStr::from_bytes_until_nul(rest).map_err(|_| Refusal::String)?;
-    Ok(Text { place: section.end - rest.len(), length: found.to_bytes().len() })
+    let spelled = found.to_str().map_err(|_| Refusal::Spelling)?;
+    Ok(Text { place: section.end - rest.len(), length: spelled.len() })
 }
 
 /// The section's bytes from `place` on.

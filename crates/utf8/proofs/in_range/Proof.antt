@@ -1,0 +1,12 @@
+-- The range's two tests.
+use Rattle.utf8.specs.Grammar.{inRange}
+use borrow.Author.Needs.{needs}
+use Rattle.utf8.proofs.in_range.Statement.{statement}
+use Rattle.utf8.proofs.in_range.Tie as tie
+
+returns : tie.Need-returns
+unfolding inRange
+returns c = search needs
+
+pub in-range-spec : {M : Type 1} → statement M
+in-range-spec = tie.close (tie.spec returns)

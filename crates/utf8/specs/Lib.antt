@@ -1,0 +1,4 @@
+pub mod Grammar
+pub mod Encoding
+pub mod Terminated
+pub mod Progress
