@@ -16,9 +16,8 @@ use Rattle.open.specs.Kept.{Opens}
 use Rattle.open.proofs.Given.{onOpened-answers}
 use Rattle.text.specs.declared.Text.{Text}
 use Rattle.text.specs.declared.Text.the-variants as text
-use Rattle.text.specs.String.{onText}
 use Rattle.text.specs.Facts.{StringSays}
-use Rattle.text.proofs.Says.{LeadsTo, leads-then, says-read}
+use Rattle.text.proofs.Says.{LeadsTo, leads-then, text-in, says-read}
 use Rattle.array.specs.declared.Array.{Array}
 use Rattle.array.specs.declared.Element.{Element}
 use Rattle.array.specs.declared.Element.the-variants as element
@@ -58,12 +57,9 @@ module _ {A : Type 0} (refused : Refusal → A) (textIn : A → Text) (own : (r 
 -- ---- the string itself, alone or with more beside it
 
 source-text : (file section : List ℕ) (at : ℕ) → sourceText (sourceOf file section at) ≡ stringOf file section at 8
-unfolding sourceOf sourceText onText
-source-text file section at = go (stringOf file section at 8)
-  where
-    go : (t : Text) → sourceText (onText source.Refused t (λ place n. source.Found place n (isCopied file at))) ≡ t
-    go (text.At place n) = refl
-    go (text.Refused r) = refl
+unfolding sourceOf sourceText
+source-text file section at =
+    text-in source.Refused sourceText (λ place n. source.Found place n (isCopied file at)) (λ r. refl) (λ p n. refl) (stringOf file section at 8)
 
 -- ---- all of them
 

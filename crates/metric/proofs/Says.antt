@@ -18,9 +18,8 @@ use Rattle.open.specs.Kept.{ArrayKept}
 use Rattle.open.proofs.Keeps.{array-iff}
 use Rattle.text.specs.declared.Text.{Text}
 use Rattle.text.specs.declared.Text.the-variants as text
-use Rattle.text.specs.String.{onText}
 use Rattle.text.specs.Facts.{StringSays}
-use Rattle.text.proofs.Says.{LeadsTo, leads-then, says-read}
+use Rattle.text.proofs.Says.{LeadsTo, leads-then, text-in, says-read}
 use Rattle.array.specs.declared.Array.{Array}
 use Rattle.array.specs.declared.Element.{Element}
 use Rattle.array.specs.declared.Element.the-variants as element
@@ -107,29 +106,24 @@ module _ {A : Type 0} (refused : Refusal → A) (textIn : A → Text) (own : (r 
 
 -- ---- the string itself, with the element's numbers beside it
 
-metric-found : (file section : List ℕ) (at scopes : ℕ) → metricText (metricFound file section at scopes) ≡ stringOf file section at 0
-unfolding metricFound metricText onText
-metric-found file section at scopes = go (stringOf file section at 0)
-  where
-    go : (t : Text) → metricText (onText metric.Refused t (λ place n. metric.Found place n scopes)) ≡ t
-    go (text.At place n) = refl
-    go (text.Refused r) = refl
+module _ (file section : List ℕ) (at : ℕ) where
+  abbrev own-string : Text
+  own-string = stringOf file section at 0
 
-scope-found : (file section : List ℕ) (at summaries : ℕ) → scopeText (scopeFound file section at summaries) ≡ stringOf file section at 0
-unfolding scopeFound scopeText onText
-scope-found file section at summaries = go (stringOf file section at 0)
-  where
-    go : (t : Text) → scopeText (onText scope.Refused t (λ place n. scope.Found place n summaries (number 2 file (at + 10)))) ≡ t
-    go (text.At place n) = refl
-    go (text.Refused r) = refl
+  metric-found : (scopes : ℕ) → metricText (metricFound file section at scopes) ≡ own-string
+  unfolding metricFound metricText
+  metric-found scopes = text-in metric.Refused metricText (λ place n. metric.Found place n scopes) (λ r. refl) (λ p n. refl) own-string
 
-summary-found : (file section : List ℕ) (at : ℕ) → summaryText (summaryFound file section at) ≡ stringOf file section at 0
-unfolding summaryFound summaryText onText
-summary-found file section at = go (stringOf file section at 0)
-  where
-    go : (t : Text) → summaryText (onText summary.Refused t (λ place n. summary.Found place n (number 1 file (at + 8)) (number 2 file (at + 10)))) ≡ t
-    go (text.At place n) = refl
-    go (text.Refused r) = refl
+  scope-found : (summaries : ℕ) → scopeText (scopeFound file section at summaries) ≡ own-string
+  unfolding scopeFound scopeText
+  scope-found summaries =
+      text-in scope.Refused scopeText (λ place n. scope.Found place n summaries (number 2 file (at + 10))) (λ r. refl) (λ p n. refl) own-string
+
+  summary-found : summaryText (summaryFound file section at) ≡ own-string
+  unfolding summaryFound summaryText
+  summary-found =
+      text-in summary.Refused summaryText (λ place n. summary.Found place n (number 1 file (at + 8)) (number 2 file (at + 10))) (λ r. refl)
+      (λ p n. refl) own-string
 
 -- ---- all of them
 

@@ -14,7 +14,7 @@ use Rattle.refusal.proofs.Numbers.{positive, same-number}
 use Rattle.utf8.specs.Encoding.{Encoded, encodings}
 use Rattle.text.specs.declared.Text.{Text}
 use Rattle.text.specs.declared.Text.the-variants.{At, Refused}
-use Rattle.text.specs.String.{stringAt, textWords, textCode, textBytes}
+use Rattle.text.specs.String.{stringAt, textWords, textCode, textBytes, onText}
 use Rattle.text.specs.Facts.{Sited, PlaceSays, CodeSays, StringSays}
 use Rattle.text.proofs.Facts.{string-says}
 
@@ -63,6 +63,13 @@ place-says file at reads =
         λ h. reads (Refused No.Spelling) (19-of-string Refused same-refusal) .1 (h .0, s .is-19 .1 (tt, h .1)),
       );
     }
+
+-- of an answer that has more in it, the string is that of the text it was made from
+pub text-in : {A : Type 0} (refused : Refusal → A) (textIn : A → Text) (answer : ℕ → ℕ → A) → ((r : Refusal) → textIn (refused r) ≡ Refused r)
+    → ((p n : ℕ) → textIn (answer p n) ≡ At p n) → (t : Text) → textIn (onText refused t answer) ≡ t
+unfolding onText
+text-in refused textIn answer own found (At p n) = found p n
+text-in refused textIn answer own found (Refused r) = own r
 
 -- ---- by its number
 

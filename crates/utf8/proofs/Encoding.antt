@@ -78,7 +78,7 @@ module _ (b : ℕ) (bytes : List ℕ) where
   )
 
   -- the first character of bytes is the encoding of a scalar code point
-  pub is-encoding : (k : ℕ) → charSize forms b bytes ≡ suc k → Encodes b bytes k
+  pub is-encoding : (k : ℕ) → charSize forms (b ∷ bytes) ≡ suc k → Encodes b bytes k
   is-encoding = by-rows forms b bytes (Encodes b bytes) rows-encode
 
 -- ---- one character and the rest
@@ -88,7 +88,7 @@ each-row : (rows : List CharForm) (b : ℕ) (bytes : List ℕ) (Q : ℕ → Type
 each-row [] b bytes Q f = tt
 each-row ((low to high then rest) ∷ rows) b bytes Q f = (λ l h g. f rest g, each-row rows b bytes Q f)
 
-pub size-inside : (rows : List CharForm) (b : ℕ) (bytes : List ℕ) (k : ℕ) → charSize rows b bytes ≡ suc k → k ≤ length bytes
+pub size-inside : (rows : List CharForm) (b : ℕ) (bytes : List ℕ) (k : ℕ) → charSize rows (b ∷ bytes) ≡ suc k → k ≤ length bytes
 size-inside rows b bytes =
     by-rows rows b bytes (λ k. k ≤ length bytes) (each-row rows b bytes (λ k. k ≤ length bytes) (λ rest f. in-ranges-length rest bytes f))
 
@@ -99,13 +99,13 @@ skip-chars (suc k) [] h = absurd (omega arith)
 skip-chars (suc k) (b ∷ bytes) h = skip-chars k bytes (omega arith)
 
 module _ (b : ℕ) (bytes : List ℕ) where
-  pub next-char : (k : ℕ) → charSize forms b bytes ≡ suc k → isUtf8 (b ∷ bytes) ≡ isUtf8 (drop k bytes)
+  pub next-char : (k : ℕ) → charSize forms (b ∷ bytes) ≡ suc k → isUtf8 (b ∷ bytes) ≡ isUtf8 (drop k bytes)
   unfolding isUtf8 onlyChars
   next-char k e =
       let z : suc k - 1 ≡ k = omega arith in
       rw (e, lt-ltb 0 (suc k) (omega arith), z) (skip-chars k bytes (size-inside forms b bytes k e))
 
-  pub no-char : charSize forms b bytes ≡ 0 → isUtf8 (b ∷ bytes) ≡ false
+  pub no-char : charSize forms (b ∷ bytes) ≡ 0 → isUtf8 (b ∷ bytes) ≡ false
   unfolding isUtf8 onlyChars
   no-char e = rw e
 
@@ -196,9 +196,9 @@ sound-within zero [] h e = record { codes = []; scalars = tt; same = refl }
 sound-within zero (b ∷ bytes) h e = absurd (omega arith)
 sound-within (suc n) [] h e = record { codes = []; scalars = tt; same = refl }
 sound-within (suc n) (b ∷ bytes) h e =
-    go (charSize forms b bytes) refl (λ (k : ℕ) e2. sound-within n (drop k bytes) (simp length-drop (omega arith)) e2)
+    go (charSize forms (b ∷ bytes)) refl (λ (k : ℕ) e2. sound-within n (drop k bytes) (simp length-drop (omega arith)) e2)
   where
-    go : (w : ℕ) → charSize forms b bytes ≡ w → ((k : ℕ) → isUtf8 (drop k bytes) ≡ true → Encoded (drop k bytes)) → Encoded (b ∷ bytes)
+    go : (w : ℕ) → charSize forms (b ∷ bytes) ≡ w → ((k : ℕ) → isUtf8 (drop k bytes) ≡ true → Encoded (drop k bytes)) → Encoded (b ∷ bytes)
     go zero p more = absurd (true≢false (sym e ∙ no-char b bytes p))
     go (suc k) p more =
         let rest = more k (sym (next-char b bytes k p) ∙ e) in

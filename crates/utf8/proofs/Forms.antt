@@ -42,7 +42,7 @@ after-rows zero rows = 0
 after-rows (suc n) [] = 0
 after-rows (suc n) ((low to high then rest) ∷ rows) = max (suc high) (after-rows n rows)
 
-pub rows-passed : (n : ℕ) (rows : List CharForm) (b : ℕ) (bytes : List ℕ) → after-rows n rows ≤ b → charSize rows b bytes ≡ charSize (drop n rows) b bytes
+pub rows-passed : (n : ℕ) (rows : List CharForm) (b : ℕ) (bytes : List ℕ) → after-rows n rows ≤ b → charSize rows (b ∷ bytes) ≡ charSize (drop n rows) (b ∷ bytes)
 unfolding charSize either
 rows-passed zero rows b bytes h = refl
 rows-passed (suc n) [] b bytes h = refl
@@ -51,7 +51,7 @@ rows-passed (suc n) ((low to high then rest) ∷ rows) b bytes h = rw (above-ran
 module _ {low high : ℕ} {rest : List ByteRange} where
   pub its-row : (rows : List CharForm) (n b : ℕ) (bytes : List ℕ)
       → drop n rows ≡ (low to high then rest) ∷ drop (suc n) rows → after-rows n rows ≤ low → low ≤ b → b ≤ high
-      → charSize rows b bytes ≡ sizeIf rest bytes
+      → charSize rows (b ∷ bytes) ≡ sizeIf rest bytes
   unfolding charSize either
   its-row rows n b bytes e p l h = rows-passed n rows b bytes (omega arith) ∙ rw (e, in-range low high b l h)
 
@@ -66,7 +66,7 @@ pub in-ranges-nil : (bytes : List ℕ) → inRanges [] bytes ≡ true
 unfolding inRanges
 in-ranges-nil bytes = refl
 
--- bytes that fit are some byte of the first range and bytes that fit the others
+-- bytes in their ranges are a byte of the first and bytes in the others
 pub uncons : (P : List ℕ → Type 0) (low high : ℕ) (ranges : List ByteRange) (bytes : List ℕ) → inRanges (low to high ∷ ranges) bytes ≡ true
     → ((x : ℕ) (rest : List ℕ) → low ≤ x → x ≤ high → inRanges ranges rest ≡ true → P (x ∷ rest)) → P bytes
 unfolding inRanges
@@ -87,14 +87,14 @@ abbrev pub Each : List CharForm → ℕ → List ℕ → (ℕ → Type 0) → Ty
 Each [] b bytes Q = Unit {0}
 Each ((low to high then rest) ∷ rows) b bytes Q = (low ≤ b → b ≤ high → inRanges rest bytes ≡ true → Q (length rest)) × Each rows b bytes Q
 
-pub by-rows : (rows : List CharForm) (b : ℕ) (bytes : List ℕ) (Q : ℕ → Type 0) → Each rows b bytes Q → (k : ℕ) → charSize rows b bytes ≡ suc k → Q k
+pub by-rows : (rows : List CharForm) (b : ℕ) (bytes : List ℕ) (Q : ℕ → Type 0) → Each rows b bytes Q → (k : ℕ) → charSize rows (b ∷ bytes) ≡ suc k → Q k
 unfolding charSize sizeIf either
 by-rows [] b bytes Q each k e = absurd (omega arith)
 by-rows ((low to high then rest) ∷ rows) b bytes Q each k e =
     go (inRange (low to high) b) refl (inRanges rest bytes) refl (λ e. by-rows rows b bytes Q (each .1) k e) e
   where
-    go : (t : Bool) → inRange (low to high) b ≡ t → (u : Bool) → inRanges rest bytes ≡ u → (charSize rows b bytes ≡ suc k → Q k)
-        → either t (either u (suc (length rest)) 0) (charSize rows b bytes) ≡ suc k → Q k
+    go : (t : Bool) → inRange (low to high) b ≡ t → (u : Bool) → inRanges rest bytes ≡ u → (charSize rows (b ∷ bytes) ≡ suc k → Q k)
+        → either t (either u (suc (length rest)) 0) (charSize rows (b ∷ bytes)) ≡ suc k → Q k
     go true p true q later e =
         let i = range-bounds low high b p in
         let z : length rest ≡ k = omega arith in

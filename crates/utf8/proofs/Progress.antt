@@ -14,7 +14,7 @@ use Rattle.range.proofs.Tests.{both}
 use Rattle.refusal.specs.Check.{either}
 use Rattle.scan.specs.Until.{until}
 use Rattle.scan.proofs.Laws.{found-here, found-later, until-most}
-use Rattle.utf8.specs.Grammar.{ByteRange, _to_, CharForm, _then_, multibyte, forms, inRange, inRanges, sizeIf, charSize, charSizeOf, onlyChars, isUtf8}
+use Rattle.utf8.specs.Grammar.{ByteRange, _to_, CharForm, _then_, multibyte, forms, inRange, inRanges, sizeIf, charSize, onlyChars, isUtf8}
 use Rattle.utf8.specs.Terminated.{beforeNul, terminated}
 use Rattle.utf8.specs.Progress.{isPlain, Spans, CharsEnd}
 use Rattle.utf8.specs.declared.Utf8.the-variants.{Valid, Invalid, Unterminated}
@@ -63,7 +63,7 @@ in-ranges-before (low to high ∷ ranges) (x ∷ bytes) h =
       | no l ↦ rw (beforeNul-nul x bytes (omega arith), below-range low high x (omega (arith, h .0)))
     ]
 
-size-before : (rows : List CharForm) (b : ℕ) (bytes : List ℕ) → HighRows rows → charSize rows b (beforeNul bytes) ≡ charSize rows b bytes
+size-before : (rows : List CharForm) (b : ℕ) (bytes : List ℕ) → HighRows rows → charSize rows (b ∷ beforeNul bytes) ≡ charSize rows (b ∷ bytes)
 unfolding charSize sizeIf
 size-before [] b bytes h = refl
 size-before ((low to high then rest) ∷ rows) b bytes h = rw (in-ranges-before rest bytes (h .1), size-before rows b bytes (h .2))
@@ -92,11 +92,11 @@ each-tail [] b bytes h = tt
 each-tail ((low to high then rest) ∷ rows) b bytes h =
     (λ l m f. let r = matched-drop rest bytes (h .1) f in (omega (arith, h .0), r .0, r .1), each-tail rows b bytes (h .2))
 
-tail-kept : (b : ℕ) (bytes : List ℕ) (k : ℕ) → charSize multibyte b bytes ≡ suc k → TailKept b bytes k
+tail-kept : (b : ℕ) (bytes : List ℕ) (k : ℕ) → charSize multibyte (b ∷ bytes) ≡ suc k → TailKept b bytes k
 tail-kept b bytes = by-rows multibyte b bytes (TailKept b bytes) (each-tail multibyte b bytes high)
 
 -- the table's size where the first byte is not ASCII
-size-multibyte : (b : ℕ) (bytes : List ℕ) → 0x80 ≤ b → charSize forms b (beforeNul bytes) ≡ charSize multibyte b bytes
+size-multibyte : (b : ℕ) (bytes : List ℕ) → 0x80 ≤ b → charSize forms (b ∷ beforeNul bytes) ≡ charSize multibyte (b ∷ bytes)
 size-multibyte b bytes h = rows-passed 1 forms b (beforeNul bytes) (omega arith) ∙ size-before multibyte b bytes high
 
 -- ---- from place to place
@@ -113,7 +113,7 @@ module _ (bytes : List ℕ) where
 
   -- a character at a place, by its bytes after the first
   char-step : (i k : ℕ) → i < length bytes → k ≤ length (drop (suc i) bytes) → (b : ℕ) → b ≡ getD bytes i 0 → 0 < b
-      → charSize forms b (beforeNul (drop (suc i) bytes)) ≡ suc k
+      → charSize forms (b ∷ beforeNul (drop (suc i) bytes)) ≡ suc k
       → drop k (beforeNul (drop (suc i) bytes)) ≡ beforeNul (drop k (drop (suc i) bytes))
       → until 0 (drop (suc i) bytes) ≡ k + until 0 (drop k (drop (suc i) bytes))
       → Spans bytes i (i + suc k)
@@ -158,37 +158,37 @@ module _ (bytes : List ℕ) where
       let z : from + k + 1 ≡ from + (k + 1) = omega arith in
       rw z at (spans-on (p (q .0)) (tested-yes (from + k) t e h (q .1)))
 
-  pub multibyte-step : (i w : ℕ) → i < length bytes → w ≡ charSizeOf multibyte (drop i bytes) → (w ≡ 0 → ⊥) → Spans bytes i (i + w)
-  unfolding charSizeOf
+  pub multibyte-step : (i w : ℕ) → i < length bytes → w ≡ charSize multibyte (drop i bytes) → (w ≡ 0 → ⊥) → Spans bytes i (i + w)
+  unfolding charSize
   multibyte-step i zero h e n = absurd (n refl)
   multibyte-step i (suc k) h e n =
       let b = getD bytes i 0 in
       let s = drop (suc i) bytes in
-      let f : charSize multibyte b s ≡ suc k = sym (e ∙ rw (drop-cons bytes i 0 h)) in
+      let f : charSize multibyte (b ∷ s) ≡ suc k = sym (e ∙ rw (drop-cons bytes i 0 h)) in
       let w = tail-kept b s k f in
       char-step i k h (size-inside multibyte b s k f) b refl (omega (arith, w .0)) (size-multibyte b s (w .0) ∙ f) (w .1) (w .2)
 
-  pub no-char-here : (i : ℕ) → i < length bytes → (0 < getD bytes i 0 → 0x80 ≤ getD bytes i 0) → charSizeOf multibyte (drop i bytes) ≡ 0
-      → charSizeOf forms (beforeNul (drop i bytes)) ≡ 0
-  unfolding charSizeOf
+  pub no-char-here : (i : ℕ) → i < length bytes → (0 < getD bytes i 0 → 0x80 ≤ getD bytes i 0) → charSize multibyte (drop i bytes) ≡ 0
+      → charSize forms (beforeNul (drop i bytes)) ≡ 0
+  unfolding charSize
   no-char-here i h a e =
       let b = getD bytes i 0 in
       let s = drop (suc i) bytes in
       let c = drop-cons bytes i 0 h in
-      let f : charSize multibyte b s ≡ 0 = sym (rw c) ∙ e in
+      let f : charSize multibyte (b ∷ s) ≡ 0 = sym (rw c) ∙ e in
       elim (decLe 1 b) [
         | yes l ↦ rw (c, beforeNul-cons b s l) (size-multibyte b s (a l) ∙ f)
         | no l ↦ rw (c, beforeNul-nul b s (omega arith))
       ]
 
-  pub no-char-left : (i : ℕ) → length bytes ≤ i → charSizeOf forms (beforeNul (drop i bytes)) ≡ 0
-  unfolding charSizeOf beforeNul
+  pub no-char-left : (i : ℕ) → length bytes ≤ i → charSize forms (beforeNul (drop i bytes)) ≡ 0
+  unfolding charSize beforeNul
   no-char-left i h = rw (drop-of-length-le bytes h, take-nil)
 
 -- ---- where the characters end
 
-not-utf8 : (s : List ℕ) → charSizeOf forms s ≡ 0 → 0 < length s → isUtf8 s ≡ false
-unfolding charSizeOf
+not-utf8 : (s : List ℕ) → charSize forms s ≡ 0 → 0 < length s → isUtf8 s ≡ false
+unfolding charSize
 not-utf8 [] e h = absurd (omega arith)
 not-utf8 (b ∷ s) e h = no-char b s e
 

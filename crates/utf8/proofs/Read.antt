@@ -10,7 +10,7 @@ use borrow.Author.Tests.{eq-eqb, ne-eqb}
 use lib.ListN.{length, drop, getD, length-drop}
 use lib.Seq.{drop-cons}
 use Rattle.refusal.specs.Check.{either}
-use Rattle.utf8.specs.Grammar.{ByteRange, _to_, CharForm, _then_, continuation, multibyte, inRange, inRanges, sizeIf, charSize, charSizeOf}
+use Rattle.utf8.specs.Grammar.{ByteRange, _to_, CharForm, _then_, continuation, multibyte, inRange, inRanges, sizeIf, charSize}
 use Rattle.utf8.specs.Progress.{secondLow, secondHigh}
 use Rattle.utf8.proofs.Forms.{below-range, rows-passed, its-row}
 
@@ -65,39 +65,40 @@ module _ (s : List ℕ) where
 
 -- ---- the first byte
 
-pub size-cons : (rows : List CharForm) (s : List ℕ) → 0 < length s → charSizeOf rows s ≡ charSize rows (getD s 0 0) (drop 1 s)
-unfolding charSizeOf
+pub size-cons : (rows : List CharForm) (s : List ℕ) → 0 < length s → charSize rows s ≡ charSize rows (getD s 0 0 ∷ drop 1 s)
+unfolding charSize
 size-cons rows [] h = absurd (omega arith)
 size-cons rows (b ∷ s) h = refl
 
-pub size-nil : (rows : List CharForm) (s : List ℕ) → length s ≡ 0 → 0 ≡ charSizeOf rows s
-unfolding charSizeOf
-size-nil rows [] h = refl
-size-nil rows (b ∷ s) h = absurd (omega arith)
+pub size-nil : (rows : List CharForm) (s : List ℕ) → length s ≡ 0 → 0 ≡ charSize rows s
+unfolding charSize
+size-nil [] s h = refl
+size-nil (row ∷ rows) [] h = refl
+size-nil (row ∷ rows) (b ∷ s) h = absurd (omega arith)
 
 abbrev Under : List CharForm → ℕ → Type 0
 Under [] b = Unit {0}
 Under ((low to high then rest) ∷ rows) b = (b < low) × Under rows b
 
-under : (rows : List CharForm) (b : ℕ) (bytes : List ℕ) → Under rows b → charSize rows b bytes ≡ 0
+under : (rows : List CharForm) (b : ℕ) (bytes : List ℕ) → Under rows b → charSize rows (b ∷ bytes) ≡ 0
 unfolding charSize either
 under [] b bytes h = refl
 under ((low to high then rest) ∷ rows) b bytes h = rw (below-range low high b (h .0)) (under rows b bytes (h .1))
 
 module _ (b : ℕ) (bytes : List ℕ) where
-  pub lead-low : b < 0xC2 → charSize multibyte b bytes ≡ 0
+  pub lead-low : b < 0xC2 → charSize multibyte (b ∷ bytes) ≡ 0
   lead-low h = under multibyte b bytes (omega arith)
 
-  pub lead-high : 0xF5 ≤ b → charSize multibyte b bytes ≡ 0
+  pub lead-high : 0xF5 ≤ b → charSize multibyte (b ∷ bytes) ≡ 0
   unfolding charSize either
   lead-high h = rows-passed 8 multibyte b bytes (omega arith)
 
-  pub lead-two : 0xC2 ≤ b → b < 0xE0 → charSize multibyte b bytes ≡ sizeIf (continuation ∷ []) bytes
+  pub lead-two : 0xC2 ≤ b → b < 0xE0 → charSize multibyte (b ∷ bytes) ≡ sizeIf (continuation ∷ []) bytes
   lead-two l h = its-row multibyte 0 b bytes refl (omega arith) l (omega arith)
 
-  second-is : (rest : List ByteRange) (low high : ℕ) → charSize multibyte b bytes ≡ sizeIf (low to high ∷ rest) bytes
+  second-is : (rest : List ByteRange) (low high : ℕ) → charSize multibyte (b ∷ bytes) ≡ sizeIf (low to high ∷ rest) bytes
       → secondLow b ≡ low → secondHigh b ≡ high
-      → charSize multibyte b bytes ≡ sizeIf (secondLow b to secondHigh b ∷ rest) bytes
+      → charSize multibyte (b ∷ bytes) ≡ sizeIf (secondLow b to secondHigh b ∷ rest) bytes
   second-is rest low high e l h = rw (l, h) e
 
   other-low : (b ≡ 0xE0 → ⊥) → (b ≡ 0xF0 → ⊥) → secondLow b ≡ 0x80
@@ -108,7 +109,7 @@ module _ (b : ℕ) (bytes : List ℕ) where
   unfolding secondHigh either
   other-high m n = rw (ne-eqb b 0xED m, ne-eqb b 0xF4 n)
 
-  pub lead-three : 0xE0 ≤ b → b < 0xF0 → charSize multibyte b bytes ≡ sizeIf (secondLow b to secondHigh b ∷ continuation ∷ []) bytes
+  pub lead-three : 0xE0 ≤ b → b < 0xF0 → charSize multibyte (b ∷ bytes) ≡ sizeIf (secondLow b to secondHigh b ∷ continuation ∷ []) bytes
   unfolding secondLow secondHigh either
   lead-three l h =
       elim (decLe 0xE1 b) [
@@ -126,7 +127,7 @@ module _ (b : ℕ) (bytes : List ℕ) where
         ]
       ]
 
-  pub lead-four : 0xF0 ≤ b → b < 0xF5 → charSize multibyte b bytes ≡ sizeIf (secondLow b to secondHigh b ∷ continuation ∷ continuation ∷ []) bytes
+  pub lead-four : 0xF0 ≤ b → b < 0xF5 → charSize multibyte (b ∷ bytes) ≡ sizeIf (secondLow b to secondHigh b ∷ continuation ∷ continuation ∷ []) bytes
   unfolding secondLow secondHigh either
   lead-four l h =
       elim (decLe 0xF1 b) [

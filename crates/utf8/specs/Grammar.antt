@@ -51,20 +51,16 @@ inRanges (r ∷ ranges) (b ∷ bytes) = inRange r b && inRanges ranges bytes
 unfoldable pub sizeIf : List ByteRange → List ℕ → ℕ
 sizeIf rest bytes = either (inRanges rest bytes) (suc (length rest)) 0
 
--- how many bytes the character has that begins with b and goes on with the bytes; 0 if none does
-unfoldable pub charSize : List CharForm → (b : ℕ) (bytes : List ℕ) → ℕ
-charSize [] b bytes = 0
-charSize ((lead then rest) ∷ rows) b bytes = either (inRange lead b) (sizeIf rest bytes) (charSize rows b bytes)
-
--- that begins with the first of the bytes
-unfoldable pub charSizeOf : List CharForm → List ℕ → ℕ
-charSizeOf rows [] = 0
-charSizeOf rows (b ∷ bytes) = charSize rows b bytes
+-- how many bytes the character has that the bytes begin with; 0 if they begin with none
+unfoldable pub charSize : List CharForm → List ℕ → ℕ
+charSize [] bytes = 0
+charSize (row ∷ rows) [] = 0
+charSize ((lead then rest) ∷ rows) (b ∷ bytes) = either (inRange lead b) (sizeIf rest bytes) (charSize rows (b ∷ bytes))
 
 -- after `skip` more bytes of a character, nothing but characters
 unfoldable pub onlyChars : (skip : ℕ) → List ℕ → Bool
 onlyChars skip [] = eqb skip 0
-onlyChars zero (b ∷ bytes) = ltb 0 (charSize forms b bytes) && onlyChars (charSize forms b bytes - 1) bytes
+onlyChars zero (b ∷ bytes) = ltb 0 (charSize forms (b ∷ bytes)) && onlyChars (charSize forms (b ∷ bytes) - 1) bytes
 onlyChars (suc skip) (b ∷ bytes) = onlyChars skip bytes
 
 -- the RFC's UTF8-octets

@@ -7,7 +7,7 @@ use lib.Dec.{leb, ltb, eqb}
 use lib.ListN.{length, getD, drop}
 use Rattle.refusal.specs.Check.{either}
 use Rattle.scan.specs.Until.{until}
-use Rattle.utf8.specs.Grammar.{forms, charSizeOf, isUtf8}
+use Rattle.utf8.specs.Grammar.{forms, charSize, isUtf8}
 use Rattle.utf8.specs.Terminated.{beforeNul}
 
 -- the range of the second byte after a first byte of E0 or more
@@ -36,4 +36,4 @@ pub record PlainSpan (bytes : List ℕ) (from to : ℕ) : Type 0 where
 -- from the start, and no character begins there
 pub record CharsEnd (bytes : List ℕ) (to : ℕ) : Type 0 where
   pub spans : Spans bytes 0 to
-  pub none : charSizeOf forms (beforeNul (drop to bytes)) ≡ 0
+  pub none : charSize forms (beforeNul (drop to bytes)) ≡ 0

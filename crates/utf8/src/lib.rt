@@ -4,7 +4,7 @@ ghost use mathlib.Core.Bool.{true};
 ghost use mathlib.Core.List.{[], _∷_};
 ghost use Prim.Native.Nat.{_+_, _≤_, _<_};
 ghost use lib.ListN.{length, drop};
-ghost use Rattle.utf8.specs.Grammar.{_to_, continuation, multibyte, inRange, sizeIf, charSizeOf};
+ghost use Rattle.utf8.specs.Grammar.{_to_, continuation, multibyte, inRange, sizeIf, charSize};
 ghost use Rattle.utf8.specs.Terminated.{terminated};
 ghost use Rattle.utf8.specs.Progress.{secondLow, secondHigh, isPlain, Spans, PlainSpan, CharsEnd};
 
@@ -84,7 +84,7 @@ fn four(s: &[u8], low: u8, high: u8) -> usize
 
 // The size of the character of several bytes that the bytes begin with; 0 if they begin with none.
 fn multibyte_size(s: &[u8]) -> usize
-    ensures { λ r. ⌜ r ≡ charSizeOf multibyte (now (s .entry)) ⌝ }
+    ensures { λ r. ⌜ r ≡ charSize multibyte (now (s .entry)) ⌝ }
 {
     if s.len() == 0 {
         return 0;

@@ -3,7 +3,7 @@ use Prim.Native.Nat.{ℕ, _-_, _+_}
 use mathlib.Core.Path.{_≡_, sym, ap, _∙_}
 use native.Mathlib.Omega.{arith}
 use lib.ListN.{length, drop}
-use Rattle.utf8.specs.Grammar.{multibyte, charSizeOf}
+use Rattle.utf8.specs.Grammar.{multibyte, charSize}
 use Rattle.utf8.specs.Progress.{Spans}
 use Rattle.utf8.proofs.Progress.{spans-none, spans-on, multibyte-step, no-char-here, no-char-left, rest-bytes}
 use borrow.Author.Needs.{needs}
@@ -25,8 +25,8 @@ module _ (c : tie.After-multibyte-size Inv-loop μ-loop) where
   at = c .before .before .before .plain-end .result
 
   -- the size is that of the character in the bytes themselves
-  sized : c .multibyte-size .result ≡ charSizeOf multibyte (drop at (start .args .bytes .now))
-  sized = c .multibyte-size .ensures ∙ ap (charSizeOf multibyte) (rest-bytes (start .args .bytes .now) at)
+  sized : c .multibyte-size .result ≡ charSize multibyte (drop at (start .args .bytes .now))
+  sized = c .multibyte-size .ensures ∙ ap (charSize multibyte) (rest-bytes (start .args .bytes .now) at)
 
   -- the character is passed
   char-passed : (c .multibyte-size .result ≡ 0 → ⊥) → Spans (start .args .bytes .now) at (at + c .multibyte-size .result)
