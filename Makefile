@@ -35,20 +35,24 @@ check: lib
 	@$(C) -o target/lookup tests/lookup.c $(LIB)
 	@$(C) -o target/api tests/api.c $(LIB)
 	@$(C) -o target/write tests/write.c $(LIB)
+	@$(C) -o target/dcpi tests/dcpi.c $(LIB)
 	@g++ -x c++ -std=c++11 -Wall -Wextra -Wpedantic -Werror -fsyntax-only include/hpcdb.h
 	@mkdir -p target/readme
 	@sed -n '/^    #include <stdio.h>/,/^Nothing has/{s/^    //p;/^Nothing has/q}' README.md > target/readme/read.c
 	@$(C) -o target/readme/read target/readme/read.c $(LIB)
 	@sed -n '/^### List/,/^### Write/s/^    //p' README.md > target/readme/list.c
 	@$(C) -o target/readme/list target/readme/list.c $(LIB)
-	@sed -n '/^### Write/,/^## Check/s/^    //p' README.md > target/readme/write.c
+	@sed -n '/^### Write/,/^### Send/s/^    //p' README.md > target/readme/write.c
 	@$(C) -o target/readme/write target/readme/write.c $(LIB)
+	@sed -n '/^### Send/,/^## Check/s/^    //p' README.md > target/readme/send.c
+	@$(C) -o target/readme/send target/readme/send.c $(LIB)
 	@cp crates/block_cases/data/p-b.db target/readme/profile.db
 	@cp crates/listing/stdin target/readme/meta.db
 	@target/lookup
 	@target/api
 	@target/write
-	@cd target/readme && { ./read && ./list && ./write; } | diff - ../../tests/readme.out
+	@target/dcpi
+	@cd target/readme && { ./read && ./list && ./write && ./send; } | diff - ../../tests/readme.out
 	@$(CARGO) test --quiet --release --manifest-path $(DIFFERENTIAL)
 	@$(CARGO) run --quiet --release --manifest-path $(DIFFERENTIAL) --bin differential
 	@$(BENCH) --compare
@@ -74,3 +78,4 @@ cases:
 	python3 tools/block_cases.py
 	python3 tools/record_cases.py
 	python3 tools/write_cases.py
+	python3 tools/dcpi_cases.py

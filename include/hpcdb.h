@@ -1,4 +1,5 @@
-/* libhpcdb: a proved reader and writer of HPCToolkit 4.0 databases (reads meta.db, profile.db, cct.db, trace.db; writes profile.db).
+/* libhpcdb: a proved reader and writer of HPCToolkit 4.0 databases (reads meta.db, profile.db, cct.db, trace.db, and the samples of old
+ * DCPI files; writes profile.db).
  *
  * A file is lent as a pointer and a length. Its bytes may be any bytes, and the numbers beside it any numbers: nothing needs to be checked
  * before a call, every call ends, and no memory is touched but what this page says. No function allocates, and none keeps anything
@@ -7,18 +8,20 @@
  * What a caller must keep to:
  *   - a pointer leads to at least as many bytes or words as the length beside it says, words aligned as uint64_t is;
  *   - `out` leads to as many words as its declaration has;
- *   - what is lent to be written (out, listing, table, records, new_mark, answers, the file of hpcdb_profile_write) overlaps nothing else
- *     that is lent, and no other thread reads or writes it during the call; files, marks, pairs and lists, which are only read, may be
- *     shared by any number of calls;
+ *   - what is lent to be written (out, listing, table, records, new_mark, answers, the file of hpcdb_profile_write, the entries of
+ *     hpcdb_dcpi_entries) overlaps nothing else that is lent, and no other thread reads or writes it during the call; files, DCPI samples,
+ *     marks, pairs and lists, which are only read, may be shared by any number of calls;
  *   - the bytes that are only read do not change during a call. A file that is mapped (mmap) may be changed or cut by another process:
  *     then what is read may be part old and part new, or the process is stopped by a signal. Read it into memory where that can happen;
  *   - the floating-point environment is the default one: round to nearest even, subnormal numbers kept. Under another one the totals of
- *     hpcdb_cct_totals may be others; no other function computes with floating-point numbers.
+ *     hpcdb_cct_totals may be others. The floats that hpcdb_dcpi_entries makes are exact in every one; no other function computes with
+ *     floating-point numbers.
  * A pointer beside the length 0 may be null: nothing is read or written through it.
  *
  * Every function returns a code. HPCDB_OK: the answer stands in `out`. Any other: `out` is as it was (but for the three walks, which
- * always write it). Positions, ids and times are never narrowed: what is too large for its field is not there. Places are offsets from the
- * file's first byte; a string is `length` bytes from `place` on, in UTF-8 (RFC 3629), without the NUL behind them. */
+ * always write it). Positions, ids, times and offsets are never narrowed: what is too large for its field is not there. (The profile and
+ * metric of hpcdb_dcpi_entries are as wide as an entry's fields: C narrows a wider number without a word, so it must fit.) Places are
+ * offsets from the file's first byte; a string is `length` bytes from `place` on, in UTF-8 (RFC 3629), without the NUL behind them. */
 #ifndef HPCDB_H
 #define HPCDB_H
 
@@ -28,9 +31,9 @@
 /* The version of the library, which is not that of the format. The second number rises with a change of a declaration here, or of what a
  * code is given for. */
 #define HPCDB_VERSION_MAJOR 0
-#define HPCDB_VERSION_MINOR 6
+#define HPCDB_VERSION_MINOR 7
 #define HPCDB_VERSION_PATCH 0
-#define HPCDB_LIBRARY_VERSION "0.6.0"
+#define HPCDB_LIBRARY_VERSION "0.7.0"
 
 #ifdef __cplusplus
 extern "C" {
@@ -39,42 +42,44 @@ extern "C" {
 /* The refusals have the numbers of document 01's table, and from 18 on of document 02. */
 enum hpcdb_code {
     HPCDB_OK = 0,
-    HPCDB_SHORT = 1,       /* fewer bytes than header and eight more */
+    HPCDB_SHORT = 1,       /* fewer bytes than header and eight more; DCPI samples without their totals */
     HPCDB_MAGIC = 2,       /* magic differs */
     HPCDB_VERSION = 3,     /* major version is not 4 */
     HPCDB_FOOTER = 4,      /* last eight bytes differ (never for trace.db) */
     HPCDB_SECTION = 5,     /* a section rule is broken */
     HPCDB_STRIDE = 6,      /* a stride is too small, or not a multiple of 8 */
-    HPCDB_ARRAY = 7,       /* an array, block, trace line or tuple breaks its range rule; a list to be written, or a profile's set of
-                            * contexts, is too long for its count */
+    HPCDB_ARRAY = 7,       /* an array, block, trace line, tuple or chunk breaks its range rule; a list to be written, or a profile's set
+                            * of contexts, is too long for its count */
     HPCDB_STRING = 8,      /* a string outside its section, or without NUL before the section's end */
     HPCDB_LINK = 9,        /* a link that leads to no element; a function whose name, module and file are all 0; a context's link that is
                             * present and 0 */
     HPCDB_CONTEXT = 10,    /* a context that does not fit, or has too few flex words */
-    HPCDB_ORDER = 11,      /* a start or order rule of a block is broken; a timestamp of a trace line falls; entries to be written are not
-                            * strictly sorted */
+    HPCDB_ORDER = 11,      /* a start or order rule of a block is broken; a timestamp of a trace line falls; a chunk of DCPI samples does
+                            * not lie behind the one before it; entries to be written are not strictly sorted */
     HPCDB_DEEP = 12,       /* a context at depth 201; roots have depth 1 */
     HPCDB_SLOT = 13,       /* a ctxId not below the table's length */
     HPCDB_TWICE = 14,      /* a ctxId that was met before */
     HPCDB_INDEX = 15,      /* a position that is not below its count; a profile, tuple or identification that is not among those to be
                             * written */
     HPCDB_NOT_FINITE = 16, /* infinity or NaN among the values of a total */
-    HPCDB_ROOM = 17,       /* fewer than 8 lent bytes for a value, too few answers for the pairs, too few bytes for a written file, or
-                            * fewer than 805 for a new mark that is asked for */
+    HPCDB_ROOM = 17,       /* fewer than 8 lent bytes for a value, too few answers for the pairs, too few bytes for a written file or for
+                            * the entries of a sample file, or fewer than 805 for a new mark that is asked for */
     HPCDB_MARK = 18,       /* a mark that is malformed, or that names a context which is not there */
     HPCDB_SPELLING = 19,   /* a string in its section whose bytes are not UTF-8 */
+    HPCDB_TOTAL = 20,      /* a total of DCPI samples differs from what their counts come to */
     HPCDB_ABSENT = 100,    /* the file opens, the asked block or line is sound, and there is no such thing in it; no other block, line or
-                            * tuple of the file was looked at */
+                            * tuple of the file was looked at. Of DCPI samples: all are sound, and no count is for the offset */
     HPCDB_CUT = 101        /* a walk listed as many contexts as there was room for, and there are more */
 };
 
-/* Every function that reads a file may return 1 to 7, by which opening refuses it. What else it may return stands beside it.
+/* Every function that reads a database may return 1 to 7, by which opening refuses it. What else it may return stands beside it.
  *
- * What a call costs: each one opens the file, which takes the same time for any file (tens of nanoseconds). Names, counts and tuples cost
- * that and the length of their strings. A lookup or a total checks the whole block of its profile or context, a sample its whole line:
- * time in proportion to the values or samples in it. So many values of one block are asked by one hpcdb_*_lookup_many, which checks the
- * block once. A walk clears its table and visits each context once; one that goes on from a mark visits those before the mark too, so that
- * a listing in k parts costs k walks of what stands before and in them. hpcdb_profile_write takes time in proportion to its lists. */
+ * What a call costs: each one that reads a database opens it, which takes the same time for any file (tens of nanoseconds). Names, counts
+ * and tuples cost that and the length of their strings. A lookup or a total checks the whole block of its profile or context, a sample its
+ * whole line: time in proportion to the values or samples in it. So many values of one block are asked by one hpcdb_*_lookup_many, which
+ * checks the block once. A walk clears its table and visits each context once; one that goes on from a mark visits those before the mark
+ * too, so that a listing in k parts costs k walks of what stands before and in them. hpcdb_profile_write takes time in proportion to its
+ * lists. Each call for DCPI samples checks all of them: time in proportion to their counts. */
 
 /* ---- meta.db */
 
@@ -386,6 +391,37 @@ enum hpcdb_sample {
     HPCDB_SAMPLE_WORDS
 };
 uint32_t hpcdb_trace_at(const uint8_t *file, size_t file_length, uint64_t i, uint64_t time, uint64_t out[3]);
+
+/* ---- old DCPI sample files (versions 0.06 and 0.07)
+ *
+ * `samples` is the binary section of such a file, from the byte behind the newline of its text header (the line "samples") to its end:
+ * chunks, each an offset, a number above 0 and that many counts, and then two totals, all of them u32, little-endian. Count i of a chunk
+ * is for offset + i. The header is not read: neither its version nor what it says of the image.
+ *
+ * Every call checks all of it first. In this order:
+ *   SHORT   fewer than 8 bytes;
+ *   ARRAY   a chunk does not fit before the totals, has number 0, or reaches past offset 2^32 - 1;
+ *   ORDER   a chunk's offset is not above every offset of the one before it (it may be the next). Both are looked for chunk by chunk, of
+ *           one chunk ARRAY before ORDER: the first chunk that breaks a rule tells which;
+ *   TOTAL   the first total is not the number of counts that are not 0, or the second not their exact sum: one of 2^32 or more is no
+ *           u32, and so always TOTAL. */
+
+/* out: how many counts are not 0, and the sum of all. SHORT, ARRAY, ORDER, TOTAL. */
+uint32_t hpcdb_dcpi_totals(const uint8_t *samples, size_t samples_length, uint64_t out[2]);
+
+/* The count for an offset. (Each call checks all samples: for many counts see hpcdb_dcpi_entries.) out: the count, which may be 0. ABSENT
+ * if no count is for the offset. SHORT, ARRAY, ORDER, TOTAL. */
+uint32_t hpcdb_dcpi_lookup(const uint8_t *samples, size_t samples_length, uint64_t offset, uint64_t out[1]);
+
+/* The counts that are not 0, as entries for hpcdb_profile_write: with this profile and metric, the offset as the context, and the count as
+ * a double, which has every count exactly. They rise by their offsets, so that hpcdb_profile_write does not refuse them by ORDER; give it
+ * 24 n bytes, and not all that were lent. out: how many there are, n; they are written to the first 24 n bytes of `entries`, and the bytes
+ * behind them are untouched. entries_length counts bytes; a last piece under 24 bytes is no entry. Any other code: `entries` is as it was
+ * too. (Entries of several sample files may stand one after the other where each is for a later profile; those of two metrics of one
+ * profile must be merged by their contexts.) SHORT, ARRAY, ORDER, TOTAL, and then
+ *   ROOM   there are more than entries_length / 24. hpcdb_dcpi_totals tells how many there are. */
+uint32_t hpcdb_dcpi_entries(const uint8_t *samples, size_t samples_length, uint32_t profile, uint16_t metric, uint8_t *entries,
+                            size_t entries_length, uint64_t out[1]);
 
 #ifdef __cplusplus
 }

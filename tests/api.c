@@ -1,4 +1,5 @@
-/* Calls every reading function of libhpcdb.a on the sample files, with answers written by hand, and with null pointers for nothing. */
+/* Calls every reading function of libhpcdb.a on the sample files and on DCPI samples made here, with answers written by hand, and with
+ * null pointers for nothing. */
 #include "../include/hpcdb.h"
 #include <stdio.h>
 #include <stdlib.h>
@@ -399,6 +400,154 @@ static void repeated_times(void)
     CODE("one below", hpcdb_trace_at(file, length, 3, 999999999999999999, out), 3, HPCDB_ABSENT);
 }
 
+/* DCPI samples: two chunks that touch, the first of 5, 0, 7 from offset 100 on, and then one up to the last offset of all. */
+enum { SECOND = 5, THIRD = 8, TOTALS = 12, SAMPLES = 14 };
+static const uint32_t sound_samples[SAMPLES] = {100, 3, 5, 0, 7, 103, 1, UINT32_MAX - 100, UINT32_MAX - 1, 2, 0, 9, 4, UINT32_MAX - 79};
+static uint8_t samples[4 * SAMPLES];
+
+static void put_number(size_t at, uint32_t number)
+{
+    for (int k = 0; k < 4; k++)
+        samples[4 * at + k] = (uint8_t)(number >> (8 * k));
+}
+
+/* The sound samples with one number changed. */
+static void set_samples(size_t at, uint32_t number)
+{
+    for (size_t i = 0; i < SAMPLES; i++)
+        put_number(i, sound_samples[i]);
+    put_number(at, number);
+}
+
+static void counts_of_samples(void)
+{
+    set_samples(0, 100);
+    WORDS("totals of samples", hpcdb_dcpi_totals(samples, sizeof samples, out), 2, 4, UINT32_MAX - 79);
+    WORDS("the first count", hpcdb_dcpi_lookup(samples, sizeof samples, 100, out), 1, 5);
+    WORDS("a count of 0", hpcdb_dcpi_lookup(samples, sizeof samples, 101, out), 1, 0);
+    WORDS("the last of a chunk", hpcdb_dcpi_lookup(samples, sizeof samples, 102, out), 1, 7);
+    WORDS("in the chunk that touches", hpcdb_dcpi_lookup(samples, sizeof samples, 103, out), 1, UINT32_MAX - 100);
+    WORDS("the last offset", hpcdb_dcpi_lookup(samples, sizeof samples, UINT32_MAX, out), 1, 9);
+    CODE("before the first", hpcdb_dcpi_lookup(samples, sizeof samples, 99, out), 1, HPCDB_ABSENT);
+    CODE("in a gap", hpcdb_dcpi_lookup(samples, sizeof samples, 104, out), 1, HPCDB_ABSENT);
+    CODE("behind the last offset", hpcdb_dcpi_lookup(samples, sizeof samples, (uint64_t)1 << 32, out), 1, HPCDB_ABSENT);
+    CODE("an offset of 33 bits", hpcdb_dcpi_lookup(samples, sizeof samples, ((uint64_t)1 << 32) + 100, out), 1, HPCDB_ABSENT);
+    CODE("the greatest number", hpcdb_dcpi_lookup(samples, sizeof samples, UINT64_MAX, out), 1, HPCDB_ABSENT);
+}
+
+/* Bytes lent for entries, with as many before and behind them; all have 0xa5 before. */
+enum { ENTRY = sizeof(struct hpcdb_entry), LENT = 6 * ENTRY };
+#define PROFILE 0xfffefdfc
+#define METRIC 0xfffe
+static uint8_t lent_for_entries[3 * LENT];
+
+/* The code; every byte that is not one of so many entries is as it was, and out[0] too unless they are listed. */
+static uint32_t list_entries(const char *what, size_t length, size_t lent_length, size_t entries)
+{
+    uint64_t out[1] = {0xa5};
+    size_t changed = 0;
+    memset(lent_for_entries, 0xa5, sizeof lent_for_entries);
+    uint32_t code = hpcdb_dcpi_entries(samples, length, PROFILE, METRIC, lent_for_entries + LENT, lent_length, out);
+    expect(what, out[0], code == HPCDB_OK ? entries : 0xa5);
+    for (size_t i = 0; i < sizeof lent_for_entries; i++)
+        changed += lent_for_entries[i] != 0xa5 && (i < LENT || i >= LENT + ENTRY * entries);
+    expect(what, changed, 0);
+    return code;
+}
+
+static void entries_of_samples(void)
+{
+    static const struct hpcdb_entry want[4] = {
+        {PROFILE, 100, METRIC, {0}, 0x4014000000000000}, /* 5.0 */
+        {PROFILE, 102, METRIC, {0}, 0x401c000000000000}, /* 7.0 */
+        {PROFILE, 103, METRIC, {0}, 0x41effffff3600000}, /* 2^32 - 101 */
+        {PROFILE, UINT32_MAX, METRIC, {0}, 0x4022000000000000}}; /* 9.0 */
+    set_samples(0, 100);
+    static const size_t enough[] = {4 * ENTRY, 4 * ENTRY + 1, 5 * ENTRY - 1, 5 * ENTRY, LENT};
+    for (size_t i = 0; i < sizeof enough / sizeof *enough; i++) {
+        expect("entries", list_entries("around the entries", sizeof samples, enough[i], 4), HPCDB_OK);
+        expect("their bytes", memcmp(lent_for_entries + LENT, want, sizeof want), 0);
+    }
+    static const size_t too_few[] = {0, 1, ENTRY, 3 * ENTRY, 4 * ENTRY - 1};
+    for (size_t i = 0; i < sizeof too_few / sizeof *too_few; i++)
+        expect("too few", list_entries("untouched after 17", sizeof samples, too_few[i], 0), HPCDB_ROOM);
+}
+
+/* All three functions refuse alike, whatever is lent. */
+static void expect_refused_samples(const char *what, size_t length, uint32_t want)
+{
+    CODE(what, hpcdb_dcpi_totals(samples, length, out), 2, want);
+    CODE(what, hpcdb_dcpi_lookup(samples, length, 100, out), 1, want);
+    CODE(what, hpcdb_dcpi_lookup(samples, length, UINT64_MAX, out), 1, want);
+    expect(what, list_entries(what, length, LENT, 0), want);
+    expect(what, list_entries(what, length, 0, 0), want);
+}
+
+static void refused_samples(void)
+{
+    set_samples(0, 100);
+    for (size_t length = 0; length < 8; length++)
+        expect_refused_samples("fewer than eight bytes", length, HPCDB_SHORT);
+    for (size_t length = 9; length < 28; length++)
+        expect_refused_samples("a chunk cut short", length, HPCDB_ARRAY);
+    expect_refused_samples("totals of one chunk", 28, HPCDB_TOTAL);
+    set_samples(1, 0);
+    expect_refused_samples("a chunk of no count", sizeof samples, HPCDB_ARRAY);
+    set_samples(THIRD + 1, 3);
+    expect_refused_samples("a count too many", sizeof samples, HPCDB_ARRAY);
+    set_samples(1, (1u << 30) + 3);
+    expect_refused_samples("as many bytes in 32 bits", sizeof samples, HPCDB_ARRAY);
+    set_samples(THIRD, UINT32_MAX);
+    expect_refused_samples("past the last offset", sizeof samples, HPCDB_ARRAY);
+    set_samples(SECOND, 102);
+    expect_refused_samples("an overlap", sizeof samples, HPCDB_ORDER);
+    set_samples(0, UINT32_MAX - 2);
+    expect_refused_samples("offsets that fall", sizeof samples, HPCDB_ORDER);
+    set_samples(TOTALS, 5);
+    expect_refused_samples("the first total", sizeof samples, HPCDB_TOTAL);
+    set_samples(TOTALS + 1, UINT32_MAX - 80);
+    expect_refused_samples("the second total", sizeof samples, HPCDB_TOTAL);
+    set_samples(THIRD + 3, 9 + 80);
+    put_number(TOTALS + 1, 0);
+    expect_refused_samples("a sum of 2^32, stored as 0", sizeof samples, HPCDB_TOTAL);
+}
+
+/* Chunk by chunk, in a chunk first 7 and then 11; the totals come last. */
+static void first_refusal_of_samples(void)
+{
+    set_samples(SECOND, 102);
+    put_number(THIRD + 1, 0);
+    expect_refused_samples("an overlap, and then a chunk of no count", sizeof samples, HPCDB_ORDER);
+    put_number(SECOND + 1, 0);
+    expect_refused_samples("an overlap by a chunk of no count", sizeof samples, HPCDB_ARRAY);
+    set_samples(THIRD, 50);
+    put_number(TOTALS, 9);
+    expect_refused_samples("an offset that falls, and a total", sizeof samples, HPCDB_ORDER);
+    put_number(THIRD + 1, 3);
+    expect_refused_samples("a count too many, and an offset that falls", sizeof samples, HPCDB_ARRAY);
+}
+
+static void samples_of_no_chunk(void)
+{
+    memset(samples, 0, sizeof samples);
+    WORDS("samples of no chunk", hpcdb_dcpi_totals(samples, 8, out), 2, 0, 0);
+    CODE("a count of none", hpcdb_dcpi_lookup(samples, 8, 0, out), 1, HPCDB_ABSENT);
+    expect("no entry", list_entries("untouched by none", 8, LENT, 0), HPCDB_OK);
+    expect("no entry in no room", list_entries("untouched by none", 8, 0, 0), HPCDB_OK);
+}
+
+/* No bytes, and no room: a pointer for length 0 may be null. */
+static void no_samples(void)
+{
+    CODE("samples", hpcdb_dcpi_totals(NULL, 0, out), 2, HPCDB_SHORT);
+    CODE("count", hpcdb_dcpi_lookup(NULL, 0, 0, out), 1, HPCDB_SHORT);
+    CODE("entries", hpcdb_dcpi_entries(NULL, 0, 0, 0, NULL, 0, out), 1, HPCDB_SHORT);
+    set_samples(0, 100);
+    CODE("no room", hpcdb_dcpi_entries(samples, sizeof samples, 0, 0, NULL, 0, out), 1, HPCDB_ROOM);
+    memset(samples, 0, sizeof samples);
+    WORDS("no entry", hpcdb_dcpi_entries(samples, 8, 0, 0, NULL, 0, out), 1, 0);
+}
+
 /* A pointer for length 0 may be null. */
 static void nothing(void)
 {
@@ -456,6 +605,12 @@ int main(void)
     values();
     tuples_and_lines();
     repeated_times();
+    counts_of_samples();
+    entries_of_samples();
+    refused_samples();
+    first_refusal_of_samples();
+    samples_of_no_chunk();
+    no_samples();
     nothing();
     if (failures)
         printf("%d of %d checks failed\n", failures, checks);

@@ -1,5 +1,5 @@
-"""HPCToolkit 4.0 files for the tests, built and opened in Python: written from the format's description alone, apart from the Rattle
-code, so that the two can be compared."""
+"""HPCToolkit 4.0 files and DCPI samples for the tests, built and opened in Python: written from the formats' descriptions alone, apart from
+the Rattle code, so that the two can be compared."""
 import struct
 
 END = 2 ** 64
@@ -624,3 +624,51 @@ def write_profile(profiles, tuples, identifiers, entries, room):
     if len(file) > room:
         raise Refused(17)
     return file
+
+
+# ---- DCPI samples. Answers are as those of counts, tuples and trace lines
+def dcpi_chunks(body):
+    """Each chunk, as pairs of an offset and its count"""
+    while body:
+        offset, size = number(body, 0, 4), number(body, 4, 4)
+        counts, body = body[8:8 + 4 * size], body[8 + 4 * size:]
+        if size == 0 or len(counts) < 4 * size or offset + size > 2 ** 32:
+            raise Refused(7)
+        yield [(offset + i, count) for i, (count,) in enumerate(struct.iter_unpack("<I", counts))]
+
+
+def dcpi_counts(samples):
+    """All counts by their offsets, which rise"""
+    if len(samples) < 8:
+        raise Refused(1)
+    pairs = []
+    for chunk in dcpi_chunks(samples[:-8]):
+        pairs += chunk
+        if not rising([offset for offset, _ in pairs]):
+            raise Refused(11)
+    some = [count for _, count in pairs if count]
+    if struct.unpack("<II", samples[-8:]) != (len(some), sum(some)):
+        raise Refused(20)
+    return dict(pairs)
+
+
+@told
+def dcpi_totals(samples):
+    some = [count for count in dcpi_counts(samples).values() if count]
+    return "totals", len(some), sum(some)
+
+
+@told
+def dcpi_lookup(samples, offset):
+    counts = dcpi_counts(samples)
+    return ("found", counts[offset]) if offset in counts else ("absent",)
+
+
+@told
+def dcpi_entries(samples, profile, metric, lent):
+    """The bytearray `lent` is left as the listing leaves it."""
+    listed = [struct.pack("<IIH6xd", profile, offset, metric, count) for offset, count in dcpi_counts(samples).items() if count]
+    if len(listed) > len(pieces(lent, 24)):
+        raise Refused(17)
+    lent[:24 * len(listed)] = b"".join(listed)
+    return "listed", len(listed)

@@ -3,12 +3,12 @@ use Prim.Native.Nat.{ℕ, _+_, _-_, _≤_, _<_}
 use mathlib.Core.Bool.{Bool, true, false}
 use mathlib.Core.List.{List}
 use mathlib.Core.Logic.{_↔_}
-use mathlib.Core.Path.{_≡_, refl, sym}
+use mathlib.Core.Path.{_≡_, refl}
 use native.Mathlib.Numerals.{add-one}
 use native.Mathlib.Omega.{arith}
 use borrow.Author.Tests.{le-leb, lt-ltb, le-ltb, leb-true, ltb-true, ltb-false, eq-eqb, eqb-true}
 use lib.Dec.{leb, ltb, eqb}
-use Rattle.range.proofs.Tests.{both}
+use Rattle.range.proofs.Tests.{same-truth, both}
 use Rattle.refusal.specs.Check.{either}
 use Rattle.seq.specs.Sequence.{every, rises}
 use Rattle.seq.proofs.Every.{every-at, every-of}
@@ -18,11 +18,6 @@ use Rattle.block.specs.declared.Block.{Block}
 use Rattle.block.specs.Block.{startOf, endOf, outerIds, innerIds, orderRule}
 use Rattle.block.specs.OnePass.{partRule, onePass}
 use Rattle.block.specs.OrderKept.{OrderKept}
-
-same-test : (a b : Bool) → (a ≡ true → b ≡ true) → (b ≡ true → a ≡ true) → a ≡ b
-same-test true b f g = sym (f refl)
-same-test false true f g = g refl
-same-test false false f g = refl
 
 module _ (file : List ℕ) (h : Shape) (b : Block) where
   abbrev start : ℕ → ℕ
@@ -122,4 +117,4 @@ module _ (file : List ℕ) (h : Shape) (b : Block) where
   order-iff = (order-facts, facts-order)
 
   pub pass-is-order : onePass file h b ≡ orderRule file h b
-  pass-is-order = same-test (onePass file h b) (orderRule file h b) (λ e. facts-order (pass-facts e)) (λ e. facts-pass (order-facts e))
+  pass-is-order = same-truth (onePass file h b) (orderRule file h b) (λ e. facts-order (pass-facts e)) (λ e. facts-pass (order-facts e))

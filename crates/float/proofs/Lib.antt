@@ -1,3 +1,4 @@
 pub mod Finite
 pub mod Sums
 pub mod Order
+pub mod Integers

@@ -34,7 +34,7 @@ module _ (out : List ℕ) (answer : Lookup) where
   room h e = rw (le-leb 8 (length out) h) e
 
 -- every check's number is small
-pub code-small : (c : Check) → codeOf c ≤ 19
+pub code-small : (c : Check) → codeOf c ≤ 20
 unfolding codeOf
 code-small Passed = omega arith
 code-small (Refused r) = small r

@@ -23,6 +23,8 @@ ghost use Rattle.block.specs.Block.{lookupWords};
 ghost use Rattle.lookup.specs.Lookup.{profileLookup, cctLookup};
 ghost use Rattle.batch.specs.Batch.{profileBatch, cctBatch};
 ghost use Rattle.profile_writer.specs.Write.{writeAnswer, writeFile, writtenWords};
+ghost use Rattle.dcpi.specs.Answers.{sampleLookup, sampleTotals, sampleCountWords, sampleTotalsWords};
+ghost use Rattle.dcpi_entries.specs.Entries.{listAnswer, listEntries, entryCountWords};
 ghost use Rattle.words.specs.Convention.{wordsIn, sectionsWords, countsWords};
 ghost use Rattle.hpcdb.specs.Value.{valueIn, valueCode, valueBytes};
 use block::Lookup;
@@ -461,4 +463,40 @@ pub extern "C" fn hpcdb_cct_lookup_many(
     ensures { λ _. ⌜ now (answers .exit) ≡ cctBatch (now (file .entry)) context (now (asked .entry)) (now (answers .entry)) .answers ⌝ }
 {
     refusal::code(batch::cct_lookups(file, context, asked, answers)) as u32
+}
+
+// ---- old DCPI sample files
+
+// The two totals: how many counts are not zero, and their sum.
+#[no_mangle]
+pub extern "C" fn hpcdb_dcpi_totals(samples: &[u8], out: &mut [u64; 2]) -> u32
+    ensures { λ r. ⌜ r ≡ codeIn (sampleTotalsWords (sampleTotals (now (samples .entry)))) ⌝ }
+    ensures { λ _. ⌜ now (out .exit) ≡ wordsIn (now (out .entry)) (sampleTotalsWords (sampleTotals (now (samples .entry)))) ⌝ }
+{
+    words::put_sample_totals(dcpi::totals(samples), out)
+}
+
+// The count for an offset.
+#[no_mangle]
+pub extern "C" fn hpcdb_dcpi_lookup(samples: &[u8], offset: u64, out: &mut [u64; 1]) -> u32
+    ensures { λ r. ⌜ r ≡ codeIn (sampleCountWords (sampleLookup (now (samples .entry)) offset)) ⌝ }
+    ensures { λ _. ⌜ now (out .exit) ≡ wordsIn (now (out .entry)) (sampleCountWords (sampleLookup (now (samples .entry)) offset)) ⌝ }
+{
+    words::put_sample_count(dcpi::lookup(samples, offset), out)
+}
+
+// The counts that are not zero, as entries for hpcdb_profile_write: how many there are.
+#[no_mangle]
+pub extern "C" fn hpcdb_dcpi_entries(
+    samples: &[u8],
+    profile: u32,
+    metric: u16,
+    entries: &mut [u8],
+    out: &mut [u64; 1],
+) -> u32
+    ensures code { λ r. ⌜ r ≡ codeIn (entryCountWords (listAnswer (now (samples .entry)) (length (now (entries .entry))))) ⌝ }
+    ensures words { λ _. ⌜ now (out .exit) ≡ wordsIn (now (out .entry)) (entryCountWords (listAnswer (now (samples .entry)) (length (now (entries .entry))))) ⌝ }
+    ensures bytes { λ _. ⌜ now (entries .exit) ≡ listEntries (now (samples .entry)) profile metric (now (entries .entry)) ⌝ }
+{
+    words::put_entry_count(dcpi_entries::list(samples, profile, metric, entries), out)
 }

@@ -11,6 +11,12 @@ fn wide(x: u8) -> u16
     x as u16
 }
 
+fn as_u32(x: u8) -> u32
+    ensures { λ r. ⌜ (r ≡ x) × (r < 256) ⌝ }
+{
+    x as u32
+}
+
 // Numbers that stand inside the file: each compiles to one load.
 pub fn load_u8(file: &[u8], at: usize) -> u8
     requires { ⌜ at + 1 ≤ length (now file) ⌝ }
@@ -33,6 +39,18 @@ pub fn load_u32(file: &[u8], at: usize) -> u32
     let low = load_u16(file, at) as u32;
     let high = load_u16(file, at + 2) as u32;
     low + 0x1_0000 * high
+}
+
+// A u32 among others, one after the other. Of four bytes it is one load before loops are vectorized, so that a loop over such numbers is
+// vectorized; of two halves, as above, it is one load only after that.
+pub fn packed_u32(file: &[u8], at: usize) -> u32
+    requires { ⌜ at + 4 ≤ length (now file) ⌝ }
+    ensures { λ r. ⌜ r ≡ number 4 (now (file .entry)) at ⌝ }
+{
+    as_u32(file[at])
+        + 0x100 * as_u32(file[at + 1])
+        + 0x1_0000 * as_u32(file[at + 2])
+        + 0x100_0000 * as_u32(file[at + 3])
 }
 
 pub fn load_u64(file: &[u8], at: usize) -> u64

@@ -54,6 +54,7 @@ module _ (f : Format) (file : List ℕ) where
   from No.Room h = absurd h
   from No.Mark h = absurd h
   from No.Spelling h = absurd h
+  from No.Total h = absurd h
 
 -- opening refuses by r exactly if the rule of r is the first that is broken
 pub refused-iff : (f : Format) (file : List ℕ) (r : Refusal) → (opening f file ≡ Refused r) ↔ Given f file r

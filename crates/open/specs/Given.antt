@@ -68,3 +68,4 @@ module _ (f : Format) (file : List ℕ) where
   Given No.Room = ⊥
   Given No.Mark = ⊥
   Given No.Spelling = ⊥
+  Given No.Total = ⊥

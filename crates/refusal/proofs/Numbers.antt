@@ -1,4 +1,4 @@
--- Refusals have the numbers from 1 to 19, each its own, and 0 is the number of a check that passed.
+-- Refusals have the numbers from 1 to 20, each its own, and 0 is the number of a check that passed.
 use Prim.Native.Nat.{ℕ, _-_, _≤_}
 use mathlib.Core.List.{List, [], _∷_}
 use mathlib.Core.Logic.{_↔_}
@@ -13,7 +13,7 @@ use Rattle.refusal.specs.Number.{numberOf}
 use Rattle.refusal.specs.Check.{codeOf}
 use Rattle.refusal.proofs.Checks.{not-both}
 
-from-one : (r : Refusal) → (1 ≤ numberOf r) × (numberOf r ≤ 19)
+from-one : (r : Refusal) → (1 ≤ numberOf r) × (numberOf r ≤ 20)
 from-one No.Short = (omega arith, omega arith)
 from-one No.Magic = (omega arith, omega arith)
 from-one No.Version = (omega arith, omega arith)
@@ -33,13 +33,14 @@ from-one No.NotFinite = (omega arith, omega arith)
 from-one No.Room = (omega arith, omega arith)
 from-one No.Mark = (omega arith, omega arith)
 from-one No.Spelling = (omega arith, omega arith)
+from-one No.Total = (omega arith, omega arith)
 
 -- ---- no two have the same number
 
 abbrev refusals : List Refusal
 refusals =
     No.Short ∷ No.Magic ∷ No.Version ∷ No.Footer ∷ No.Section ∷ No.Stride ∷ No.Array ∷ No.String ∷ No.Link ∷ No.Context ∷ No.Order ∷ No.Deep
-    ∷ No.Slot ∷ No.Twice ∷ No.Index ∷ No.NotFinite ∷ No.Room ∷ No.Mark ∷ No.Spelling ∷ []
+    ∷ No.Slot ∷ No.Twice ∷ No.Index ∷ No.NotFinite ∷ No.Room ∷ No.Mark ∷ No.Spelling ∷ No.Total ∷ []
 
 abbrev refusalOf : ℕ → Refusal
 refusalOf n = getD refusals (n - 1) No.Room
@@ -64,6 +65,7 @@ of-its-number No.NotFinite = refl
 of-its-number No.Room = refl
 of-its-number No.Mark = refl
 of-its-number No.Spelling = refl
+of-its-number No.Total = refl
 
 pub same-number : (r s : Refusal) → numberOf r ≡ numberOf s → r ≡ s
 same-number r s e = sym (of-its-number r) ∙ ap refusalOf e ∙ of-its-number s
@@ -75,8 +77,8 @@ pub 7-is-not-11 : No.Array ≡ No.Order → ⊥
 pub positive : (r : Refusal) → 1 ≤ numberOf r
 positive r = from-one r .0
 
--- and none is above 19
-pub small : (r : Refusal) → numberOf r ≤ 19
+-- and none is above 20
+pub small : (r : Refusal) → numberOf r ≤ 20
 small r = from-one r .1
 
 -- the number is 0 exactly if the check passed

@@ -23,6 +23,7 @@ pub enum Refusal {
     Room,
     Mark,
     Spelling,
+    Total,
 }
 
 // The number of a refusal: the only function that goes by its cases.
@@ -49,6 +50,7 @@ pub fn number(r: Refusal) -> u64
         Refusal::Room => 17,
         Refusal::Mark => 18,
         Refusal::Spelling => 19,
+        Refusal::Total => 20,
     }
 }
 

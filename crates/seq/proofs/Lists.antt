@@ -1,8 +1,13 @@
--- Facts of all elements of a list, and of every two, put together and taken apart.
-use Prim.Native.Nat.{ℕ, zero, suc}
-use mathlib.Core.List.{List, [], _∷_, _++_}
-use lib.ListN.{take, drop}
-use Rattle.seq.specs.Lists.{All, Ordered}
+-- Facts of all elements of a list, and of every two, put together and taken apart; what is in a list, and where.
+use Prim.Native.Nat.{ℕ, zero, suc, _<_}
+use mathlib.Core.List.{List, [], _∷_, _++_, append-assoc}
+use mathlib.Core.Logic.{_⊎_, inl, inr}
+use mathlib.Core.Path.{_≡_, refl, sym, ap, _∙_, subst}
+use native.Mathlib.Nat.{le-of-suc-le-suc, not-suc-le-zero}
+use native.Mathlib.Omega.{arith}
+use lib.ListN.{length, getD, take, drop, length-append}
+use lib.Seq.{getD-append-seam}
+use Rattle.seq.specs.Lists.{All, In, Ordered}
 
 module _ {A : Type 0} where
   pub all-imp : {P Q : A → Type 0} → ((x : A) → P x → Q x) → (l : List A) → All P l → All Q l
@@ -38,3 +43,73 @@ module _ {A : Type 0} where
   pub ordered-snoc : (R : A → A → Type 0) (l : List A) (x : A) → Ordered R l → All (λ y. R y x) l → Ordered R (l ++ (x ∷ []))
   ordered-snoc R [] x h k = (tt, tt)
   ordered-snoc R (y ∷ l) x h k = (all-append (R y) l (x ∷ []) (h .0) (k .0, tt), ordered-snoc R l x (h .1) (k .1))
+
+  pub ordered-append : (R : A → A → Type 0) (a b : List A) → Ordered R a → Ordered R b → All (λ x. All (R x) b) a → Ordered R (a ++ b)
+  ordered-append R [] b h k m = k
+  ordered-append R (x ∷ a) b h k m = (all-append (R x) a b (h .0) (m .0), ordered-append R a b (h .1) k (m .1))
+
+  -- ---- what is in a list
+
+  pub in-first : (x : A) (l : List A) → In x (x ∷ l)
+  in-first x l = ([], l, refl)
+
+  pub in-rest : {x : A} (y : A) {l : List A} → In x l → In x (y ∷ l)
+  in-rest y (a, b, e) = (y ∷ a, b, ap (λ (l : List A). y ∷ l) e)
+
+  pub in-none : {x : A} → In x [] → ⊥
+  in-none ([], b, e) = let z : _≡_ {A = ℕ} 0 1 = cc in omega arith
+  in-none (y ∷ a, b, e) = let z : _≡_ {A = ℕ} 0 1 = cc in omega arith
+
+  pub in-cases : {x y : A} {l : List A} → In x (y ∷ l) → (x ≡ y) ⊎ In x l
+  in-cases ([], b, e) = inl (cc)
+  in-cases (z ∷ a, b, e) = inr (a, b, (cc))
+
+  pub all-in : (P : A → Type 0) {x : A} (l : List A) → All P l → In x l → P x
+  all-in P [] h i = absurd (in-none i)
+  all-in P {x} (y ∷ l) h i = go (in-cases i) (all-in P l (h .1))
+    where
+      go : (x ≡ y) ⊎ In x l → (In x l → P x) → P x
+      go (inl e) r = subst P (sym e) (h .0)
+      go (inr j) r = r j
+
+  pub all-of : (P : A → Type 0) (l : List A) → ((x : A) → In x l → P x) → All P l
+  all-of P [] h = tt
+  all-of P (y ∷ l) h = (h y (in-first y l), all-of P l (λ x i. h x (in-rest y i)))
+
+  pub in-left : {x : A} (l m : List A) → In x l → In x (l ++ m)
+  in-left {x} l m (a, b, e) = (a, b ++ m, ap (λ (k : List A). k ++ m) e ∙ append-assoc a (x ∷ b) m)
+
+  pub in-right : {x : A} (l m : List A) → In x m → In x (l ++ m)
+  in-right {x} l m (a, b, e) = (l ++ a, b, ap (λ (k : List A). l ++ k) e ∙ sym (append-assoc l a (x ∷ b)))
+
+  pub in-append : {x : A} (l m : List A) → In x (l ++ m) → In x l ⊎ In x m
+  in-append [] m i = inr i
+  in-append {x} (y ∷ l) m i = go (in-cases i) (in-append l m)
+    where
+      rest : In x l ⊎ In x m → In x (y ∷ l) ⊎ In x m
+      rest (inl j) = inl (in-rest y j)
+      rest (inr j) = inr j
+
+      go : (x ≡ y) ⊎ In x (l ++ m) → (In x (l ++ m) → In x l ⊎ In x m) → In x (y ∷ l) ⊎ In x m
+      go (inl e) r = inl (subst (λ (z : A). In x (z ∷ l)) e (in-first x l))
+      go (inr j) r = rest (r j)
+
+  -- ---- by position
+
+  pub nth-in : (d : A) (l : List A) (k : ℕ) → k < length l → In (getD l k d) l
+  nth-in d [] k h = absurd (not-suc-le-zero h)
+  nth-in d (x ∷ l) zero h = in-first x l
+  nth-in d (x ∷ l) (suc k) h = in-rest x (nth-in d l k (le-of-suc-le-suc h))
+
+  pub in-nth : (d : A) {x : A} (l : List A) → In x l → (k : ℕ) × ((k < length l) × (getD l k d ≡ x))
+  in-nth d {x} l (a, b, e) = (
+    length a,
+    (subst (λ (m : List A). length a < length m) (sym e) (rw length-append (omega arith)), ap (λ (m : List A). getD m (length a) d) e ∙ getD-append-seam a x b d),
+  )
+
+  pub ordered-nth : (R : A → A → Type 0) (d : A) (l : List A) → Ordered R l → (j k : ℕ) → j < k → k < length l → R (getD l j d) (getD l k d)
+  ordered-nth R d [] h j k m n = absurd (not-suc-le-zero n)
+  ordered-nth R d (x ∷ l) h zero zero m n = absurd (omega arith)
+  ordered-nth R d (x ∷ l) h zero (suc k) m n = all-in (R x) l (h .0) (nth-in d l k (le-of-suc-le-suc n))
+  ordered-nth R d (x ∷ l) h (suc j) zero m n = absurd (omega arith)
+  ordered-nth R d (x ∷ l) h (suc j) (suc k) m n = ordered-nth R d l (h .1) j k (le-of-suc-le-suc m) (le-of-suc-le-suc n)

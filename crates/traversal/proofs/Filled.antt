@@ -5,14 +5,14 @@ use mathlib.Core.Bool.{Bool, true, false}
 use mathlib.Core.List.{List, [], _∷_, _++_, map, map-append, append-assoc}
 use mathlib.Core.Path.{_≡_, refl, sym, ap, _∙_, subst}
 use lib.ListN.{getD, take, replicate}
-use Rattle.seq.specs.Lists.{All, Differs, Distinct, Below}
+use Rattle.seq.specs.Lists.{All, In, Differs, Distinct, Below}
 use Rattle.seq.proofs.Lists.{all-left}
 use Rattle.refusal.specs.Check.{either}
 use Rattle.context.specs.Entry.{Entry}
 use Rattle.traversal.specs.Traversal.{Asked, listOf, traversal}
 use Rattle.traversal.specs.From.{skipped, isPassed, upToMark}
 use Rattle.traversal.specs.Walk.{reached, newPath, tableWith}
-use Rattle.traversal.specs.Demand3.{In, Begins}
+use Rattle.traversal.specs.Demand3.{Begins}
 use Rattle.traversal.proofs.Begins.{begins-take}
 use Rattle.traversal.proofs.Table.{idOf, slot-stays, later-differ, slot-holds}
 use Rattle.traversal.proofs.Ids.{Ids, traversal-ids}

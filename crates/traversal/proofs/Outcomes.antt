@@ -19,7 +19,7 @@ use Rattle.buffer.specs.Over.{over}
 use Rattle.buffer.proofs.Laws.{drop-over}
 use Rattle.open.specs.Format.{meta}
 use Rattle.open.specs.Opening.{opening}
-use Rattle.seq.specs.Lists.{Distinct}
+use Rattle.seq.specs.Lists.{In, Distinct}
 use Rattle.layout.specs.Octets.{Octets}
 use Rattle.mark.specs.Mark.{encode, malformed, decode, isNamed}
 use Rattle.mark.proofs.Bytes.{encode-decode, decoded-shallow, mark-stands}
@@ -29,7 +29,7 @@ use Rattle.traversal.specs.declared.Walked.the-variants.{Refused}
 use Rattle.traversal.specs.From.{pathOf, samePath, marksOf, skipped, isPassed, afterMark, upToMark, withList, unpassed, fromMark, lastPath}
 use Rattle.traversal.specs.Walk.{walkCheck, givenPath, trailFrom, walkOf, markPassed, newPath, reached, walkedOf, numberListed}
 use Rattle.traversal.specs.Walk.{placeOf, slotsWith, tableWith, wordsOf, recordsWith, markAfter}
-use Rattle.traversal.specs.Demand3.{Call, asked, listedNumber, trail, listed, Untouched, In, OneWalk}
+use Rattle.traversal.specs.Demand3.{Call, asked, listedNumber, trail, listed, Untouched, OneWalk}
 use Rattle.traversal.specs.Joined.{OnTrail, Roomy, Begun, Cleared, contexts, MarkFails, fitting, ListsAndFills, Outcomes}
 use Rattle.traversal.proofs.From.{list-with, with-own, from-passed, from-unpassed, root-skipped, root-passed, root-after}
 use Rattle.traversal.proofs.Keeps.{snoc}

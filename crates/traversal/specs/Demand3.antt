@@ -2,13 +2,14 @@
 -- over the trail from just after it": `trailFrom`, which for no mark is the trail.
 use Prim.Native.Nat.{ℕ, _≤_, _<_, min}
 use mathlib.Core.Bool.{true, false}
-use mathlib.Core.List.{List, [], _∷_, _++_, map}
+use mathlib.Core.List.{List, [], _++_, map}
 use mathlib.Core.Logic.{_↔_}
 use mathlib.Core.Path.{_≡_, refl}
 use lib.ListN.{length, getD, take, drop}
 use Rattle.refusal.specs.declared.Refusal.{Refusal}
 use Rattle.refusal.specs.declared.Refusal.the-variants as No
 use Rattle.refusal.specs.declared.Check.the-variants as Check
+use Rattle.seq.specs.Lists.{In}
 use Rattle.mark.specs.Mark.{decode}
 use Rattle.context.specs.Entry.{Entry}
 use Rattle.traversal.specs.declared.Walked.{Walked}
@@ -62,10 +63,6 @@ module _ {file : List ℕ} (c : Call file) where
       × (c .now .mark ≡ c .was .mark)
 
 -- ---- of one walk
-
--- x is in a list
-abbrev pub In : {A : Type 0} → A → List A → Type 0
-In {A = A} x l = (a : List A) × (b : List A) × (l ≡ a ++ (x ∷ b))
 
 pub record OneWalk {file : List ℕ} (c : Call file) : Type 0 where
   -- "Its number listed is the smaller of two counts, the contexts on the trail and the words of the listing."

@@ -12,6 +12,7 @@ use Rattle.refusal.specs.declared.Check.the-variants as Check
 use Rattle.open.specs.Format.{meta}
 use Rattle.open.specs.Opening.{opening}
 use Rattle.layout.specs.Octets.{Octets}
+use Rattle.seq.specs.Lists.{In}
 use Rattle.mark.specs.Mark.{markRoom, encode, named, malformed, decode}
 use Rattle.context.specs.Entry.{Entry}
 use Rattle.traversal.specs.declared.Walked.{Walked}
@@ -19,7 +20,7 @@ use Rattle.traversal.specs.declared.Walked.the-variants.{Complete, Trunc
 use Rattle.traversal.specs.Traversal.{on, refused, listOf, traversal}
 use Rattle.traversal.specs.From.{withList, lastPath}
 use Rattle.traversal.specs.Walk.{walkCheck, trailFrom, markPassed, placeOf, tableWith}
-use Rattle.traversal.specs.Demand3.{Call, asked, listedNumber, listedWords, listed, Untouched, In}
+use Rattle.traversal.specs.Demand3.{Call, asked, listedNumber, listedWords, listed, Untouched}
 
 -- the context that a path names is on a list; "before the first root .. always counts as passed"
 abbrev pub OnTrail : (path : List ℕ) → List Entry → Type 0

@@ -14,8 +14,13 @@ ghost use Rattle.tuple.specs.Tuple.{tupleWords, identifierWords};
 ghost use Rattle.trace.specs.Trace.{lineWords, sampleWords, lastWords};
 ghost use Rattle.total.specs.Totals.{totalsWords};
 ghost use Rattle.profile_writer.specs.Write.{writtenWords};
+ghost use Rattle.dcpi.specs.Answers.{sampleCountWords, sampleTotalsWords};
+ghost use Rattle.dcpi_entries.specs.Entries.{entryCountWords};
 ghost use Rattle.words.specs.Convention.{wordsIn};
 use count::Count;
+use dcpi::SampleCount;
+use dcpi::SampleTotals;
+use dcpi_entries::EntryCount;
 use function::Function;
 use meta::SourceFile;
 use metric::Metric;
@@ -306,5 +311,48 @@ pub fn put_walked(answer: Walked, out: &mut [u64; 1]) -> u32
             *out = [n as u64];
             code(r)
         }
+    }
+}
+
+// The count for an offset.
+pub fn put_sample_count(answer: SampleCount, out: &mut [u64; 1]) -> u32
+    ensures { λ r. ⌜ r ≡ codeIn (sampleCountWords answer) ⌝ }
+    ensures { λ _. ⌜ now (out .exit) ≡ wordsIn (now (out .entry)) (sampleCountWords answer) ⌝ }
+{
+    match answer {
+        SampleCount::Found(count) => {
+            *out = [count];
+            0
+        }
+        SampleCount::Absent => 100,
+        SampleCount::Refused(r) => code(r),
+    }
+}
+
+// How many counts are not zero, and their sum.
+pub fn put_sample_totals(answer: SampleTotals, out: &mut [u64; 2]) -> u32
+    ensures { λ r. ⌜ r ≡ codeIn (sampleTotalsWords answer) ⌝ }
+    ensures { λ _. ⌜ now (out .exit) ≡ wordsIn (now (out .entry)) (sampleTotalsWords answer) ⌝ }
+{
+    match answer {
+        SampleTotals::Of { offsets, samples } => {
+            *out = [offsets, samples];
+            0
+        }
+        SampleTotals::Refused(r) => code(r),
+    }
+}
+
+// How many entries there are.
+pub fn put_entry_count(answer: EntryCount, out: &mut [u64; 1]) -> u32
+    ensures { λ r. ⌜ r ≡ codeIn (entryCountWords answer) ⌝ }
+    ensures { λ _. ⌜ now (out .exit) ≡ wordsIn (now (out .entry)) (entryCountWords answer) ⌝ }
+{
+    match answer {
+        EntryCount::Of(n) => {
+            *out = [n];
+            0
+        }
+        EntryCount::Refused(r) => code(r),
     }
 }

@@ -1,4 +1,4 @@
-/* A reader of HPCToolkit 4.0 databases in plain C, against which libhpcdb.a is timed. Each function makes the checks of
+/* A reader of HPCToolkit 4.0 databases and of DCPI samples in plain C, against which libhpcdb.a is timed. Each function makes the checks of
  * the function of hpcdb.h that has its name, and answers as that one does. */
 #ifndef PLAIN_H
 #define PLAIN_H
@@ -44,5 +44,12 @@ uint32_t plain_cct_totals(const uint8_t *file, size_t file_length, uint64_t cont
 
 uint32_t plain_trace_open(const uint8_t *file, size_t file_length, uint64_t out[1]);
 uint32_t plain_trace_at(const uint8_t *file, size_t file_length, uint64_t i, uint64_t time, uint64_t out[3]);
+
+/* ---- DCPI samples: dcpi.c */
+
+uint32_t plain_dcpi_totals(const uint8_t *samples, size_t samples_length, uint64_t out[2]);
+uint32_t plain_dcpi_lookup(const uint8_t *samples, size_t samples_length, uint64_t offset, uint64_t out[1]);
+uint32_t plain_dcpi_entries(const uint8_t *samples, size_t samples_length, uint32_t profile, uint16_t metric,
+                            uint8_t *entries, size_t entries_length, uint64_t out[1]);
 
 #endif

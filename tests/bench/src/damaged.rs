@@ -61,6 +61,9 @@ fn ask_plain(question: &Question, file: &[u8], memory: &mut Memory) -> Option<u3
         CctTotals => plain::hpcdb_cct_totals(file, a, b, array(out)),
         TraceOpen => plain::hpcdb_trace_open(file, array(out)),
         TraceAt => plain::hpcdb_trace_at(file, a, b, array(out)),
+        DcpiTotals => plain::hpcdb_dcpi_totals(file, array(out)),
+        DcpiLookup => plain::hpcdb_dcpi_lookup(file, a, array(out)),
+        DcpiEntries => plain::hpcdb_dcpi_entries(file, a as u32, b as u16, bytes, array(out)),
         _ => return None,
     };
     Some(code)

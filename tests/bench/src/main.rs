@@ -34,6 +34,7 @@ fn main() -> ExitCode {
         rows::small_answers,
         rows::paths,
         rows::writes,
+        rows::samples,
     ] {
         group(&mut run);
     }

@@ -67,4 +67,24 @@ functions! {
     hpcdb_cct_totals = "plain_cct_totals"(context, metric) out 6;
     hpcdb_trace_open = "plain_trace_open"() out 1;
     hpcdb_trace_at = "plain_trace_at"(i, time) out 3;
+    hpcdb_dcpi_totals = "plain_dcpi_totals"() out 2;
+    hpcdb_dcpi_lookup = "plain_dcpi_lookup"(offset) out 1;
+}
+
+/// The one whose numbers are not words.
+pub fn hpcdb_dcpi_entries(samples: &[u8], profile: u32, metric: u16, entries: &mut [u8], out: &mut [u64; 1]) -> u32 {
+    extern "C" {
+        fn plain_dcpi_entries(
+            samples: *const u8,
+            samples_length: usize,
+            profile: u32,
+            metric: u16,
+            entries: *mut u8,
+            entries_length: usize,
+            out: *mut [u64; 1],
+        ) -> u32;
+    }
+    let (length, lent) = (samples.len(), entries.len());
+    // SAFETY: each slice's pointer is valid for the length behind it, `out` for its word.
+    unsafe { plain_dcpi_entries(samples.as_ptr(), length, profile, metric, entries.as_mut_ptr(), lent, out) }
 }

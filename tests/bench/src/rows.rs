@@ -210,3 +210,25 @@ pub fn writes(run: &mut Run) {
         });
     }
 }
+
+#[derive(Clone, PartialEq)]
+struct EntriesMemory {
+    entries: Vec<u8>,
+    out: [u64; 1],
+}
+
+pub fn samples(run: &mut Run) {
+    for (chunks, number) in [("one chunk", MILLION), ("chunks of 100", 100), ("chunks of 4", 4)] {
+        let samples = large::samples(MILLION, number);
+        let what = format!("dcpi totals of 1,000,000 counts in {chunks}");
+        row!(run, &what, &[(); FEW], [UNWRITTEN; 2], |_, out| hpcdb_dcpi_totals(&samples, out));
+    }
+    let samples = large::samples(MILLION, 100);
+    let offsets = random_numbers(FEW, (MILLION / 100) as u64 * (100 + large::GAP));
+    let what = "dcpi lookup in 1,000,000 counts, chunks of 100";
+    row!(run, what, &offsets, [UNWRITTEN; 1], |&offset, out| hpcdb_dcpi_lookup(&samples, offset, out));
+
+    let memory = EntriesMemory { entries: vec![UNWRITTEN as u8; 24 * MILLION], out: [UNWRITTEN] };
+    let what = "dcpi entries of 1,000,000 counts, half of them 0, chunks of 100";
+    row!(run, what, &[()], memory, |_, m| hpcdb_dcpi_entries(&samples, 1, 2, &mut m.entries, &mut m.out));
+}

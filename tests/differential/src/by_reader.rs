@@ -2,7 +2,7 @@
 //! those of `ffi`.
 
 use crate::reader::walk::{End, Walked};
-use crate::reader::{cct, meta, profile, trace, walk, Refusal, Span, Text};
+use crate::reader::{cct, dcpi, meta, profile, trace, walk, Refusal, Span, Text};
 use crate::writer::{self, Lists};
 
 pub const ANSWERED: u32 = 0;
@@ -237,4 +237,16 @@ pub fn hpcdb_cct_lookup_many(file: &[u8], context: u64, pairs: &[u64], answers: 
 
 pub fn hpcdb_profile_write(lists: &Lists, file: &mut [u8], out: &mut [u64; 1]) -> u32 {
     written(writer::write(lists, file).map(|length| Some([length])), out)
+}
+
+pub fn hpcdb_dcpi_totals(samples: &[u8], out: &mut [u64; 2]) -> u32 {
+    written(dcpi::totals(samples).map(|totals| Some([totals.offsets, totals.samples])), out)
+}
+
+pub fn hpcdb_dcpi_lookup(samples: &[u8], offset: u64, out: &mut [u64; 1]) -> u32 {
+    written(dcpi::lookup(samples, offset).map(|found| found.map(|count| [count.into()])), out)
+}
+
+pub fn hpcdb_dcpi_entries(samples: &[u8], profile: u32, metric: u16, entries: &mut [u8], out: &mut [u64; 1]) -> u32 {
+    written(dcpi::entries(samples, profile, metric, entries).map(|number| Some([number])), out)
 }

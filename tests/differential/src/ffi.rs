@@ -45,6 +45,8 @@ word_functions! {
     hpcdb_trace_line(i) -> 2;
     hpcdb_trace_sample(i, k) -> 2;
     hpcdb_trace_at(i, time) -> 3;
+    hpcdb_dcpi_totals() -> 2;
+    hpcdb_dcpi_lookup(offset) -> 1;
 }
 
 /// Functions that lend slices besides the file, or instead of it.
@@ -133,6 +135,15 @@ mod slices {
             entries_length: usize,
             file: *mut u8,
             file_length: usize,
+            out: *mut [u64; 1],
+        ) -> u32;
+        pub fn hpcdb_dcpi_entries(
+            samples: *const u8,
+            samples_length: usize,
+            profile: u32,
+            metric: u16,
+            entries: *mut u8,
+            entries_length: usize,
             out: *mut [u64; 1],
         ) -> u32;
     }
@@ -266,6 +277,21 @@ pub fn hpcdb_profile_write(lists: &Lists, file: &mut [u8], out: &mut [u64; 1]) -
             lists.entries.len(),
             file.as_mut_ptr(),
             file.len(),
+            out,
+        )
+    }
+}
+
+pub fn hpcdb_dcpi_entries(samples: &[u8], profile: u32, metric: u16, entries: &mut [u8], out: &mut [u64; 1]) -> u32 {
+    // SAFETY: each slice's pointer is valid for the length behind it, `out` for its word.
+    unsafe {
+        slices::hpcdb_dcpi_entries(
+            samples.as_ptr(),
+            samples.len(),
+            profile,
+            metric,
+            entries.as_mut_ptr(),
+            entries.len(),
             out,
         )
     }

@@ -55,8 +55,8 @@ pub struct Memory {
     pub out: Lent<u64>,
     /// of a walk: listing, table, records; of a batch: answers
     pub slices: [Lent<u64>; 3],
-    /// of a lookup: the bytes for the value; of the writer: those for the file; of a walk: those for a new mark; at an
-    /// odd address
+    /// of a lookup: the bytes for the value; of the writer: those for the file; of a walk: those for a new mark; of
+    /// samples: those for entries; at an odd address
     pub bytes: Lent<u8>,
 }
 

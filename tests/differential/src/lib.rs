@@ -10,5 +10,6 @@ pub mod lent;
 pub mod question;
 pub mod read_back;
 pub mod reader;
+pub mod shape;
 pub mod tally;
 pub mod writer;

@@ -10,6 +10,8 @@ pub enum Database {
     Profile,
     Cct,
     Trace,
+    /// the binary section of a DCPI file
+    Dcpi,
 }
 
 #[derive(Clone, Copy, PartialEq, Eq, Debug)]
@@ -45,9 +47,12 @@ pub enum Function {
     ProfileLookupMany,
     CctLookupMany,
     ProfileWrite,
+    DcpiTotals,
+    DcpiLookup,
+    DcpiEntries,
 }
 
-use Database::{Cct, Meta, Profile, Trace};
+use Database::{Cct, Dcpi, Meta, Profile, Trace};
 use Function::*;
 
 /// What is to be known of a function.
@@ -74,7 +79,7 @@ const fn row(
 }
 
 /// The table of the interface, in the order of `Function`: numbers taken, words of `out`, codes.
-pub const FUNCTIONS: [Row; 31] = [
+pub const FUNCTIONS: [Row; 34] = [
     row(MetaOpen, "hpcdb_meta_open", Meta, [0, 16], &[0]),
     row(ProfileOpen, "hpcdb_profile_open", Profile, [0, 1], &[0]),
     row(CctOpen, "hpcdb_cct_open", Cct, [0, 1], &[0]),
@@ -106,6 +111,9 @@ pub const FUNCTIONS: [Row; 31] = [
     row(ProfileLookupMany, "hpcdb_profile_lookup_many", Profile, [1, 0], &[0, 7, 11, 15, 17]),
     row(CctLookupMany, "hpcdb_cct_lookup_many", Cct, [1, 0], &[0, 7, 11, 15, 17]),
     row(ProfileWrite, "hpcdb_profile_write", Profile, [0, 1], &[0, 7, 11, 15, 17]),
+    row(DcpiTotals, "hpcdb_dcpi_totals", Dcpi, [0, 2], &[0, 1, 7, 11, 20]),
+    row(DcpiLookup, "hpcdb_dcpi_lookup", Dcpi, [1, 1], &[0, 1, 7, 11, 20, 100]),
+    row(DcpiEntries, "hpcdb_dcpi_entries", Dcpi, [2, 1], &[0, 1, 7, 11, 17, 20]),
 ];
 
 impl Function {
@@ -161,6 +169,10 @@ macro_rules! ask_through {
             ProfileLookupMany => $interface::hpcdb_profile_lookup_many(file, a, &question.pairs, first),
             CctLookupMany => $interface::hpcdb_cct_lookup_many(file, a, &question.pairs, first),
             ProfileWrite => $interface::hpcdb_profile_write(&question.survey.lists(file), bytes, array(out)),
+            DcpiTotals => $interface::hpcdb_dcpi_totals(file, array(out)),
+            DcpiLookup => $interface::hpcdb_dcpi_lookup(file, a, array(out)),
+            // they were chosen to be in their types
+            DcpiEntries => $interface::hpcdb_dcpi_entries(file, a as u32, b as u16, bytes, array(out)),
         }
     }};
 }
@@ -187,7 +199,7 @@ pub struct Question {
     pub numbers: [u64; 3],
     /// words lent: of a walk listing, table, records; of a batch answers
     pub rooms: [usize; 3],
-    /// bytes lent for a lookup's value, for the file that is written, or for a new mark
+    /// bytes lent for a lookup's value, for the file that is written, for a new mark, or for entries
     pub byte_room: usize,
     /// of a batch
     pub pairs: Vec<u64>,

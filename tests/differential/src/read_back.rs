@@ -1,4 +1,5 @@
-//! A written file, read back: what its readers have to say follows from the lists that it was written from.
+//! A written file, read back: what its readers have to say follows from the lists that it was written from, or from the
+//! samples whose entries it has.
 
 use std::collections::BTreeMap;
 
@@ -8,7 +9,7 @@ use crate::question::Function::{self, *};
 use crate::question::Question;
 use crate::reader::bytes::{u16_at, u32_at, u64_at};
 use crate::reader::Refusal;
-use crate::writer::{context_of, metric_of, profile_of, Entry, Lists};
+use crate::writer::{context_of, metric_of, profile_of, Entry, Lists, ENTRY};
 
 /// Identifications asked for of a tuple, and values of a profile whose neighbours are; of more of them, about so many.
 const IDENTIFICATIONS: usize = 400;
@@ -88,8 +89,14 @@ fn lookups(values: &Values, profile: u64, asked: &mut Vec<Expected>) {
     let single = some.iter().step_by(SINGLY).chain(beside.iter().step_by(4 * SINGLY + 1));
     asked.extend(single.map(|ids| lookup(*ids, Some(values.get(ids).copied().into_iter().collect()))));
     let pairs: Vec<[u64; 3]> = own.into_iter().chain(beside).collect();
-    let answers = pairs.iter().flat_map(|ids| values.get(ids).map_or([ABSENT.into(), 0], |bits| [0, *bits])).collect();
-    asked.push(batch(profile, pairs.iter().flat_map(|ids| [ids[1], ids[2]]).collect(), Some(answers)));
+    asked.push(batch_of(values, profile, &pairs));
+}
+
+/// The contexts and metrics of these ids, in one profile.
+fn batch_of(values: &Values, profile: u64, ids: &[[u64; 3]]) -> Expected {
+    let value = |[_, context, metric]: &[u64; 3]| values.get(&[profile, *context, *metric]);
+    let answers = ids.iter().flat_map(|ids| value(ids).map_or([ABSENT.into(), 0], |bits| [0, *bits])).collect();
+    batch(profile, ids.iter().flat_map(|[_, context, metric]| [*context, *metric]).collect(), Some(answers))
 }
 
 /// Most of them are absent; some would be there if an id were cut to its field.
@@ -117,4 +124,49 @@ fn batch(profile: u64, pairs: Vec<u64>, words: Option<Vec<u64>>) -> Expected {
     expected.question.rooms[0] = pairs.len();
     expected.question.pairs = pairs;
     expected
+}
+
+/// Counts of samples asked for; of more of them, about so many.
+const COUNTS: usize = 400;
+
+/// The writing of a file with so many entries, all of one profile, which is the last; those before it have none. The
+/// room is always enough.
+pub fn write_of_listed(profile: u64, entries: usize) -> Question {
+    let mut question = Question::new(ProfileWrite, [0; 3]);
+    question.survey.profiles = vec![0; profile as usize + 1];
+    question.survey.tuples = vec![0];
+    question.byte_room = 72 + 40 * question.survey.profiles.len() + 8 + ENTRY * entries;
+    question
+}
+
+/// Of a file with the entries of sound samples: each count that is not 0 is the value at its offset, and at other
+/// offsets there is none, nor in other profiles and metrics.
+pub fn questions_of_listed(samples: &[u8], profile: u64, metric: u64) -> Vec<Expected> {
+    let counts = counts(samples);
+    let ids = |offset: &u64| [profile, *offset, metric];
+    let not_zero = counts.iter().filter(|(_, count)| *count != 0);
+    let values: Values = not_zero.map(|(offset, count)| (ids(offset), f64::from(*count).to_bits())).collect();
+    let some = some_positions(counts.len(), COUNTS).filter_map(|k| counts.get(k));
+    let some: Vec<[u64; 3]> = some.map(|(offset, _)| ids(offset)).collect();
+    let beside: Vec<[u64; 3]> = some.iter().step_by(SINGLY).flat_map(neighbours).collect();
+    let single = some.iter().step_by(SINGLY).chain(beside.iter().step_by(4 * SINGLY + 1));
+    let mut asked: Vec<Expected> =
+        single.map(|ids| lookup(*ids, Some(values.get(ids).copied().into_iter().collect()))).collect();
+    let pairs: Vec<[u64; 3]> = some.into_iter().chain(beside).collect();
+    asked.push(batch_of(&values, profile, &pairs));
+    if profile > 0 {
+        asked.push(batch_of(&values, profile - 1, &pairs));
+    }
+    asked
+}
+
+/// Each offset that a count is for, with its count.
+fn counts(samples: &[u8]) -> Vec<(u64, u32)> {
+    let (mut counts, mut at) = (Vec::new(), 0);
+    while at + 8 < samples.len() {
+        let (offset, number) = (u64::from(u32_at(samples, at)), u64::from(u32_at(samples, at + 4)));
+        counts.extend((0..number).map(|i| (offset + i, u32_at(samples, at + 8 + 4 * i as usize))));
+        at += 8 + 4 * number as usize;
+    }
+    counts
 }

@@ -12,18 +12,21 @@ use crate::joined::{new_mark, Outcome};
 use crate::question::Function::*;
 use crate::question::{Database, Question, Row, FUNCTIONS};
 use crate::reader::walk::{Path, MARK_ROOM, RECORD_WORDS};
-use crate::reader::{meta, Refusal};
-use crate::writer::{self, profile_of, Lists};
+use crate::reader::{dcpi, meta, Refusal};
+use crate::shape::Shape;
+use crate::writer::{self, profile_of, Lists, ENTRY};
 
 /// Codes of opening.
 const OPENING: [u32; 7] = [1, 2, 3, 4, 5, 6, 7];
 const FOOTER: u32 = 4;
 
-/// Refusals of the writer, and of a walk from a mark.
+/// Refusals of the writer, of a walk from a mark, and of samples.
+const ARRAY: u32 = Refusal::Array as u32;
 const ORDER: u32 = Refusal::Order as u32;
 const INDEX: u32 = Refusal::Index as u32;
 const ROOM: u32 = Refusal::Room as u32;
 const MARK: u32 = Refusal::Mark as u32;
+const TOTAL: u32 = Refusal::Total as u32;
 
 /// Each code that a function can give is to occur this often in a run of full length, each kind of answer too.
 const LEAST: u64 = 50;
@@ -38,7 +41,7 @@ pub struct Tally {
 }
 
 /// Kinds of answers and files that a run has to meet.
-const KINDS: [&str; 59] = [
+const KINDS: [&str; 78] = [
     "sound file",
     "damaged file",
     "sound lists",
@@ -98,6 +101,25 @@ const KINDS: [&str; 59] = [
     "refused 17 for one byte",
     "refused 15 with entries out of order",
     "refused 11 with a tuple too long",
+    "sound samples",
+    "damaged samples",
+    "samples of no chunk",
+    "samples with chunks that touch",
+    "refused 7 of a chunk that is out of order too",
+    "refused 7 with other totals",
+    "refused 11 before a chunk that is refused 7",
+    "refused 11 with other totals",
+    "refused 20 with a sum that is the same modulo 2^32",
+    "refused 20 with too few entries lent",
+    "count of 0 found",
+    "count at the last offset found",
+    "offset that has a count modulo 2^32",
+    "listed entries in just enough room",
+    "listed entries with a piece of one behind them",
+    "listed entries with room for more",
+    "no entry listed of samples with counts",
+    "refused 17 for one byte of an entry",
+    "listed entries written and read back",
 ];
 
 impl Tally {
@@ -109,6 +131,8 @@ impl Tally {
         self.add_kind(match (&specimen.known, specimen.damage.is_empty()) {
             (Known::Lists(_), true) => "sound lists",
             (Known::Lists(_), false) => "damaged lists",
+            (Known::Dcpi(_), true) => "sound samples",
+            (Known::Dcpi(_), false) => "damaged samples",
             (_, true) => "sound file",
             (_, false) => "damaged file",
         });
@@ -123,19 +147,21 @@ impl Tally {
         kinds.iter().filter(|(met, _)| *met).for_each(|(_, kind)| self.add_kind(kind));
     }
 
-    pub fn add_case(&mut self, question: &Question, specimen: &Specimen, reply: &Reply) {
+    /// The file that was asked is the specimen's, or was written.
+    pub fn add_case(&mut self, question: &Question, specimen: &Specimen, file: &[u8], reply: &Reply) {
         self.cases += 1;
         self.codes[question.function as usize][reply.code as usize] += 1;
         let out = reply.memory.out.body();
         match question.function {
             MetaWalk | MetaRecords => self.add_walk(question, reply.code, out[0]),
-            MetaWalkFrom => self.add_walk_from(question, &specimen.bytes, reply),
-            ProfileWrite => self.add_write(question, &specimen.bytes, reply),
+            MetaWalkFrom => self.add_walk_from(question, file, reply),
+            ProfileWrite => self.add_write(question, file, reply),
+            DcpiTotals | DcpiLookup | DcpiEntries => self.add_samples(question, file, reply),
             _ if reply.code != ANSWERED => {}
             MetaFunction => self.add_kind(if out[0] == 0 { "name in the file" } else { "placeholder for a name" }),
             MetaFile => self.add_kind(if out[2] == 1 { "copied file" } else { "file not copied" }),
             CctTotals if f64::from_bits(out[5]).is_infinite() => self.add_kind("infinite sum of finite values"),
-            ProfileLookup | CctLookup if specimen.bytes.len() > 600_000 => self.add_kind("lookup in a large block"),
+            ProfileLookup | CctLookup if file.len() > 600_000 => self.add_kind("lookup in a large block"),
             TraceLine if out[1] == 0 => self.add_kind("empty trace line"),
             TraceAt if repeats_the_one_before(specimen, question.numbers[0], out[0]) => {
                 self.add_kind("last of several samples with one timestamp")
@@ -145,8 +171,8 @@ impl Tally {
             }
             _ => {}
         }
-        if let Some(string) = string(question, &specimen.bytes, reply) {
-            self.add_string(question, &specimen.bytes, string);
+        if let Some(string) = string(question, file, reply) {
+            self.add_string(question, file, string);
         }
     }
 
@@ -270,6 +296,53 @@ impl Tally {
         ]);
     }
 
+    fn add_samples(&mut self, question: &Question, samples: &[u8], reply: &Reply) {
+        let shape = Shape::of(samples);
+        let sound = [ANSWERED, ABSENT, ROOM].contains(&reply.code);
+        let (beside, differs) = (shape.disorder == shape.misfit, shape.has_other_totals());
+        self.add_kinds(&[
+            (sound && shape.chunks == 0, "samples of no chunk"),
+            (sound && shape.touching, "samples with chunks that touch"),
+            (reply.code == ARRAY && beside, "refused 7 of a chunk that is out of order too"),
+            (reply.code == ARRAY && differs, "refused 7 with other totals"),
+            (reply.code == ORDER && shape.misfit.is_some(), "refused 11 before a chunk that is refused 7"),
+            (reply.code == ORDER && differs, "refused 11 with other totals"),
+            (reply.code == TOTAL && shape.sum_rolls_over(), "refused 20 with a sum that is the same modulo 2^32"),
+        ]);
+        match question.function {
+            DcpiLookup => self.add_offset(question.numbers[0], samples, reply),
+            DcpiEntries => self.add_entries(question.byte_room, &shape, reply),
+            _ => {}
+        }
+    }
+
+    fn add_offset(&mut self, offset: u64, samples: &[u8], reply: &Reply) {
+        let (count, low) = (reply.memory.out.body()[0], offset % (1 << 32));
+        let absent = reply.code == ABSENT && low != offset;
+        self.add_kinds(&[
+            (reply.code == ANSWERED && count == 0, "count of 0 found"),
+            (reply.code == ANSWERED && offset == u32::MAX.into(), "count at the last offset found"),
+            (absent && matches!(dcpi::lookup(samples, low), Ok(Some(_))), "offset that has a count modulo 2^32"),
+        ]);
+    }
+
+    fn add_entries(&mut self, lent: usize, shape: &Shape, reply: &Reply) {
+        let needed = ENTRY * shape.not_zero as usize;
+        let listed = reply.code == ANSWERED;
+        self.add_kinds(&[
+            (listed && lent == needed && needed > 0, "listed entries in just enough room"),
+            (listed && lent > needed && lent < needed + ENTRY, "listed entries with a piece of one behind them"),
+            (listed && lent >= needed + ENTRY, "listed entries with room for more"),
+            (listed && needed == 0 && shape.chunks > 0, "no entry listed of samples with counts"),
+            (reply.code == ROOM && lent + 1 == needed, "refused 17 for one byte of an entry"),
+            (reply.code == TOTAL && lent < needed, "refused 20 with too few entries lent"),
+        ]);
+    }
+
+    pub fn add_read_back(&mut self, entries: u64) {
+        self.add_kinds(&[(entries > 0, "listed entries written and read back")]);
+    }
+
     fn of(&self, row: &Row, code: u32) -> u64 {
         self.codes[row.function as usize][code as usize]
     }
@@ -356,7 +429,9 @@ fn code_name(code: u32) -> String {
 }
 
 fn can_give(row: &Row, code: u32) -> bool {
-    // the writer opens no file, and a trace.db has no footer
-    let never = row.function == ProfileWrite || code == FOOTER && row.database == Database::Trace;
+    // the writer and the readers of samples open no file, and a trace.db has no footer
+    let never = row.function == ProfileWrite
+        || row.database == Database::Dcpi
+        || code == FOOTER && row.database == Database::Trace;
     OPENING.contains(&code) && !never || row.codes.contains(&code)
 }

@@ -21,7 +21,8 @@ pub struct Lists<'a> {
 type Identifier = [u8; 16];
 
 /// u32 profile, u32 context, u16 metric, six bytes that are ignored, u64 value bits.
-pub type Entry = [u8; 24];
+pub type Entry = [u8; ENTRY];
+pub const ENTRY: usize = 24;
 
 pub fn profile_of(entry: &Entry) -> u32 {
     u32_at(entry, 0)

@@ -1,5 +1,5 @@
 //! The reader over the repository's stored cases: it is to print what stands in each `stdout`. So are the writer and
-//! the library over the lists, and the library over the marks.
+//! the library over the lists, and the library over the marks and over DCPI samples.
 
 use std::fmt::Write as _;
 use std::fs;
@@ -367,4 +367,83 @@ fn files_by_the_writer() {
 #[test]
 fn files_by_the_library() {
     assert_writes(ffi::hpcdb_profile_write);
+}
+
+type Entries = fn(&[u8], u32, u16, &mut [u8], &mut [u64; 1]) -> u32;
+
+/// The functions of samples, of the reader or of the library.
+struct Samples {
+    totals: fn(&[u8], &mut [u64; 2]) -> u32,
+    lookup: fn(&[u8], u64, &mut [u64; 1]) -> u32,
+    entries: Entries,
+}
+
+/// A word for each code, and the numbers of an answer.
+fn shown_answer(code: u32, answered: &str, numbers: &[u64]) -> String {
+    match code {
+        by_reader::ANSWERED => numbers.iter().fold(answered.to_owned(), |shown, number| format!("{shown} {number}")),
+        by_reader::ABSENT => "absent".to_owned(),
+        refusal => format!("refused {refusal}"),
+    }
+}
+
+/// The answer, and all of the bytes lent for entries, which are 255 before, by rows of an entry each.
+fn shown_entries(side: &Samples, samples: &[u8], profile: u32, metric: u16, lent: usize) -> String {
+    let (mut entries, mut out) = (vec![BYTE_BEFORE; lent], [0]);
+    let code = (side.entries)(samples, profile, metric, &mut entries, &mut out);
+    let mut shown = shown_answer(code, "listed", &out);
+    for (k, row) in entries.chunks(24).enumerate() {
+        let row: String = row.iter().map(|byte| format!("{byte:02x}")).collect();
+        write!(shown, "\n{} {row}", 24 * k).expect("a String takes it");
+    }
+    shown
+}
+
+fn shown_samples(side: &Samples, words: &[&str]) -> String {
+    let samples = data("dcpi_cases", words[0]);
+    let number = |k: usize| words[k].parse::<u64>().expect("the list has numbers");
+    match words[1] {
+        "totals" => {
+            let mut out = [0; 2];
+            shown_answer((side.totals)(&samples, &mut out), "totals", &out)
+        }
+        "lookup" => {
+            let mut out = [0];
+            shown_answer((side.lookup)(&samples, number(2), &mut out), "found", &out)
+        }
+        "entries" => {
+            let profile = u32::try_from(number(2)).expect("a profile has 32 bits");
+            let metric = u16::try_from(number(3)).expect("a metric has 16 bits");
+            shown_entries(side, &samples, profile, metric, number(4) as usize)
+        }
+        other => panic!("dcpi_cases: {other} is no question"),
+    }
+}
+
+fn assert_samples(side: &Samples) {
+    let lines = list("dcpi_cases");
+    assert!(!lines.is_empty(), "dcpi_cases: there are none");
+    let shown = |line: &String| {
+        let words: Vec<&str> = line.split(' ').collect();
+        format!("== {line}\n{}\n", shown_samples(side, &words))
+    };
+    assert_prints("dcpi_cases", lines.iter().map(shown).collect::<String>().as_bytes());
+}
+
+#[test]
+fn samples_by_the_reader() {
+    assert_samples(&Samples {
+        totals: by_reader::hpcdb_dcpi_totals,
+        lookup: by_reader::hpcdb_dcpi_lookup,
+        entries: by_reader::hpcdb_dcpi_entries,
+    });
+}
+
+#[test]
+fn samples_by_the_library() {
+    assert_samples(&Samples {
+        totals: ffi::hpcdb_dcpi_totals,
+        lookup: ffi::hpcdb_dcpi_lookup,
+        entries: ffi::hpcdb_dcpi_entries,
+    });
 }

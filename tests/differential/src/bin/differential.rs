@@ -14,13 +14,16 @@ use differential::gen::{follow_ups, parts, questions, specimen, Known, Rng, Spec
 use differential::joined::{self, Outcome};
 use differential::lent::LentFile;
 use differential::question::{Function, Question, Survey};
-use differential::read_back;
+use differential::read_back::{self, Expected};
 use differential::reader::walk::MARK_ROOM;
 use differential::tally::Tally;
-use differential::writer::Lists;
+use differential::writer::ENTRY;
 
 const SEED: u64 = 20_260_401;
-const CASES: u64 = 2_250_000;
+const CASES: u64 = 2_400_000;
+
+/// Files are written from listed entries of the profiles below it.
+const PROFILES: u64 = 8;
 
 const USAGE: &str = "\
 differential [--seed S] [--cases N] [--counts]   compare over generated files; --counts shows what the run met
@@ -109,45 +112,74 @@ fn run_file(seed: u64, number: u64, tally: &mut Tally, aloud: bool) -> Result<()
     if aloud {
         println!("file {number}: {}", described(&specimen));
     }
-    let mut ask = |question: &Question, file: &LentFile| {
-        if aloud {
+    let mut run = FileRun { seed, number, specimen: &specimen, file: &file, tally, aloud };
+    first.iter().try_for_each(|question| run.ask_on(&mut rng, question))
+}
+
+/// The run of one file.
+struct FileRun<'a> {
+    seed: u64,
+    number: u64,
+    specimen: &'a Specimen,
+    file: &'a LentFile,
+    tally: &'a mut Tally,
+    aloud: bool,
+}
+
+impl FileRun<'_> {
+    /// Asks a question of the file, or of one that was written.
+    fn ask(&mut self, question: &Question, file: &LentFile) -> Result<Reply, String> {
+        if self.aloud {
             println!("{}", shown(question));
         }
         let reply = compare(question, file).map_err(|difference| {
-            let what = format!("case {} of seed {seed}, file {number}: {}", tally.cases, described(&specimen));
+            let (seed, number) = (self.seed, self.number);
+            let what = format!("case {} of seed {seed}, file {number}: {}", self.tally.cases, described(self.specimen));
             format!(
                 "difference in {what}\n{}\n{difference}again: differential --seed {seed} --file {number}",
                 shown(question)
             )
         })?;
-        tally.add_case(question, &specimen, &reply);
-        Ok::<Reply, String>(reply)
-    };
-    let mut joins = Vec::new();
-    for question in &first {
-        let reply = ask(question, &file)?;
+        self.tally.add_case(question, self.specimen, file.bytes(), &reply);
+        Ok(reply)
+    }
+
+    /// Asks a question of the file, and what follows from the answer.
+    fn ask_on(&mut self, rng: &mut Rng, question: &Question) -> Result<(), String> {
+        let (file, number) = (self.file, self.number);
+        let reply = self.ask(question, file)?;
         if rng.one_in(2) {
             let then = follow_ups(question, reply.code, reply.memory.out.body());
-            then.iter().try_for_each(|question| ask(question, &file).map(drop))?;
+            then.iter().try_for_each(|question| self.ask(question, file).map(drop))?;
         }
-        if question.function == Function::ProfileWrite && reply.code == ANSWERED {
-            let by = |failure| format!("{failure}\nin what was written by file {number}, {}", shown(question));
-            ask_written(&question.survey.lists(file.bytes()), &reply, &mut ask).map_err(by)?;
+        let failed = |what: &str, failure| format!("{failure}\nin {what} file {number}, {}", shown(question));
+        match question.function {
+            Function::ProfileWrite if reply.code == ANSWERED => {
+                let expected = read_back::questions(&question.survey.lists(file.bytes()));
+                let failed = |failure| failed("what was written by", failure);
+                ask_written(&expected, &reply, |question, file| self.ask(question, file)).map_err(failed)?;
+            }
+            Function::DcpiEntries if reply.code == ANSWERED && question.numbers[0] < PROFILES && rng.one_in(2) => {
+                let failed = |failure| failed("entries of", failure);
+                ask_listed(question, file.bytes(), &reply, |question, file| self.ask(question, file))
+                    .map_err(failed)?;
+                self.tally.add_read_back(reply.memory.out.body()[0]);
+            }
+            Function::MetaWalkFrom if hands_out_a_mark(question) && rng.one_in(4) => {
+                let parts = parts(rng, question.rooms[0]);
+                let failed = |failure| failed(&format!("parts {parts:?} of"), failure);
+                let outcome = ask_parts(question, &parts, |question| self.ask(question, file)).map_err(failed)?;
+                self.tally.add_joined(&parts, &outcome);
+            }
+            _ => {}
         }
-        if hands_out_a_mark(question) && rng.one_in(4) {
-            let parts = parts(&mut rng, question.rooms[0]);
-            let outcome = ask_parts(question, &parts, |question| ask(question, &file))
-                .map_err(|failure| format!("{failure}\nin parts {parts:?} of file {number}, {}", shown(question)))?;
-            joins.push((parts, outcome));
-        }
+        Ok(())
     }
-    joins.iter().for_each(|(parts, outcome)| tally.add_joined(parts, outcome));
-    Ok(())
 }
 
-/// Unless something else is refused.
+/// A walk from a mark, unless something else is refused.
 fn hands_out_a_mark(question: &Question) -> bool {
-    question.function == Function::MetaWalkFrom && question.numbers[0] != 0 && question.byte_room >= MARK_ROOM
+    question.numbers[0] != 0 && question.byte_room >= MARK_ROOM
 }
 
 /// Asks for a walk in parts and in one: library and reader agree, and the parts joined are the one walk.
@@ -164,20 +196,37 @@ fn ask_parts(
     Ok(joined)
 }
 
-/// Reads a written file back: library and reader agree, and they say what the lists say.
+/// Reads a written file back: library and reader agree, and they say what they must.
 fn ask_written(
-    lists: &Lists,
+    expected: &[Expected],
     reply: &Reply,
     mut ask: impl FnMut(&Question, &LentFile) -> Result<Reply, String>,
 ) -> Result<(), String> {
     let length = reply.memory.out.body()[0] as usize;
     let written = LentFile::new(reply.memory.bytes.body()[..length].to_vec(), 0, 0);
-    for expected in read_back::questions(lists) {
+    for expected in expected {
         if !expected.is_given_by(&ask(&expected.question, &written)?) {
-            return Err(format!("the lists have another answer to {}", shown(&expected.question)));
+            return Err(format!("what it was written from has another answer to {}", shown(&expected.question)));
         }
     }
     Ok(())
+}
+
+/// Writes a file from entries that were listed, and reads it back.
+fn ask_listed(
+    question: &Question,
+    samples: &[u8],
+    reply: &Reply,
+    mut ask: impl FnMut(&Question, &LentFile) -> Result<Reply, String>,
+) -> Result<(), String> {
+    let [profile, metric, _] = question.numbers;
+    let number = reply.memory.out.body()[0] as usize;
+    let entries = LentFile::new(reply.memory.bytes.body()[..ENTRY * number].to_vec(), 0, 0);
+    let written = ask(&read_back::write_of_listed(profile, number), &entries)?;
+    if written.code != ANSWERED {
+        return Err(format!("the writer refuses them by {}", written.code));
+    }
+    ask_written(&read_back::questions_of_listed(samples, profile, metric), &written, ask)
 }
 
 /// Keeps the file for a closer look.

@@ -2,12 +2,13 @@
 
 use super::image::{number_at, Field, FieldKind};
 use super::rng::Rng;
-use super::{footer, header_end, lists, Known, Specimen};
+use super::{dcpi, footer, header_end, lists, Known, Specimen};
 
-/// Damages a file or lists in one way.
+/// Damages a file, lists or samples in one way.
 pub fn damage(rng: &mut Rng, specimen: &mut Specimen) {
     let done = match &mut specimen.known {
         Known::Lists(known) => lists::damage(rng, &mut known.survey, &mut specimen.bytes),
+        Known::Dcpi(known) if rng.one_in(2) => dcpi::damage(rng, known, &mut specimen.bytes),
         _ => damage_file(rng, specimen),
     };
     specimen.damage.extend(done);
@@ -135,11 +136,17 @@ fn flip_bits(rng: &mut Rng, specimen: &mut Specimen) -> Option<String> {
     Some(done)
 }
 
-/// Puts the footer where the file now ends, in half of the cases.
+/// Puts the footer, or the totals, where the file now ends, in half of the cases.
 fn mend_footer(rng: &mut Rng, specimen: &mut Specimen) {
+    if rng.one_in(2) {
+        return;
+    }
     let place = specimen.bytes.len().checked_sub(8);
-    if let (Some(place), Some(footer), true) = (place, footer(specimen.database), rng.one_in(2)) {
+    if let (Some(place), Some(footer)) = (place, footer(specimen.database)) {
         specimen.bytes[place..].copy_from_slice(footer);
+    }
+    if let Known::Dcpi(_) = specimen.known {
+        dcpi::mend_totals(&mut specimen.bytes);
     }
 }
 

@@ -44,6 +44,10 @@ pub enum FieldKind {
     LineStart,
     LineEnd,
     Timestamp,
+    ChunkOffset,
+    ChunkNumber,
+    SampleCount,
+    SampleTotal,
     Other,
 }
 

@@ -1,4 +1,4 @@
-//! Large sound files and lists: nothing is left to chance but the order of flags.
+//! Large sound files, lists and samples: nothing is left to chance but the order of flags and which counts are 0.
 
 use super::rng::Rng;
 use super::tree::needed_words;
@@ -273,4 +273,26 @@ pub fn survey(profiles: usize, contexts: usize, metrics: usize) -> (Survey, Vec<
         entries.extend((k as f64).to_bits().to_le_bytes());
     }
     (Survey { profiles: numbers.collect(), tuples: vec![2; profiles], identifiers }, entries)
+}
+
+/// Offsets from one chunk of samples to the next that no count is for.
+pub const GAP: u64 = 4;
+
+/// DCPI samples of so many counts, about half of them 0, in chunks of `number`.
+pub fn samples(counts: usize, number: usize) -> Vec<u8> {
+    let mut rng = Rng::of_file(0, 1);
+    let (mut samples, mut not_zero, mut sum) = (Vec::new(), 0, 0);
+    for k in 0..counts {
+        if k % number == 0 {
+            let offset = (k / number) as u64 * (number as u64 + GAP);
+            samples.extend((offset as u32).to_le_bytes());
+            samples.extend((number.min(counts - k) as u32).to_le_bytes());
+        }
+        let count = if rng.one_in(2) { 0 } else { rng.between(1, 1000) as u32 };
+        not_zero += u32::from(count != 0);
+        sum += count;
+        samples.extend(count.to_le_bytes());
+    }
+    samples.extend([not_zero, sum].map(u32::to_le_bytes).as_flattened());
+    samples
 }

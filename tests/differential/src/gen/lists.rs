@@ -4,7 +4,7 @@ use super::blocks::{identifications, Block, PROFILE_MAJOR};
 use super::rng::Rng;
 use super::{count, Specimen};
 use crate::question::{Database, Survey};
-use crate::writer;
+use crate::writer::{self, ENTRY};
 
 /// The entries are the specimen's bytes.
 pub struct Known {
@@ -14,7 +14,6 @@ pub struct Known {
 }
 
 const IDENTIFIER: usize = 16;
-const ENTRY: usize = 24;
 
 /// One identification more than a tuple can have.
 const TOO_MANY: usize = 65_536;

@@ -1,7 +1,8 @@
-//! Files and lists to compare over: sound ones of every shape, and damaged ones.
+//! Files, lists and samples to compare over: sound ones of every shape, and damaged ones.
 
 mod blocks;
 mod damage;
+mod dcpi;
 mod image;
 pub mod large;
 mod lists;
@@ -21,10 +22,11 @@ use crate::question::Database;
 use crate::{reader, writer};
 use image::{Field, FieldKind, Image};
 
-/// A generated file, or lists to write one from, and what is known of it, so that questions can be about what is there.
+/// A generated file or section, or lists to write a file from, and what is known of it, so that questions can be about
+/// what is there.
 pub struct Specimen {
     pub database: Database,
-    /// the file, or the entries
+    /// the file, the section, or the entries
     pub bytes: Vec<u8>,
     pub known: Known,
     /// what was done to a sound one
@@ -39,16 +41,18 @@ pub enum Known {
     Blocks(blocks::Known),
     Trace(trace::Known),
     Lists(lists::Known),
+    Dcpi(dcpi::Known),
 }
 
-/// A file of any kind, or lists; seven in ten damaged.
+/// A file of any kind, lists or samples; seven in ten damaged.
 pub fn specimen(rng: &mut Rng) -> Specimen {
-    let mut specimen = match rng.below(42) {
+    let mut specimen = match rng.below(46) {
         0..16 => meta::specimen(rng),
         16..24 => blocks::specimen(rng, &blocks::PROFILE_MAJOR),
         24..32 => blocks::specimen(rng, &blocks::CONTEXT_MAJOR),
         32..40 => trace::specimen(rng),
-        _ => lists::specimen(rng),
+        40..42 => lists::specimen(rng),
+        _ => dcpi::specimen(rng),
     };
     let times = rng.pick(&[0, 0, 0, 1, 1, 1, 1, 1, 2, 3]);
     for _ in 0..times {
@@ -72,6 +76,7 @@ impl Specimen {
             Database::Profile => reader::profile::count(&self.bytes).is_ok(),
             Database::Cct => reader::cct::count(&self.bytes).is_ok(),
             Database::Trace => reader::trace::count(&self.bytes).is_ok(),
+            Database::Dcpi => reader::dcpi::totals(&self.bytes).is_ok(),
         }
     }
 }
@@ -82,16 +87,17 @@ const fn magic(database: Database) -> &'static [u8; 14] {
         Database::Profile => b"HPCTOOLKITprof",
         Database::Cct => b"HPCTOOLKITctxt",
         Database::Trace => b"HPCTOOLKITtrce",
+        Database::Dcpi => panic!("samples begin with a chunk"),
     }
 }
 
-/// In trace.db any eight bytes will do.
+/// In trace.db any eight bytes will do; samples end with totals.
 const fn footer(database: Database) -> Option<&'static [u8; 8]> {
     match database {
         Database::Meta => Some(b"_meta.db"),
         Database::Profile => Some(b"_prof.db"),
         Database::Cct => Some(b"__ctx.db"),
-        Database::Trace => None,
+        Database::Trace | Database::Dcpi => None,
     }
 }
 
@@ -100,6 +106,7 @@ const fn header_end(database: Database) -> usize {
         Database::Meta => 144,
         Database::Profile => 48,
         Database::Cct | Database::Trace => 32,
+        Database::Dcpi => 0,
     }
 }
 

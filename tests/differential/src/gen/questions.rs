@@ -4,11 +4,12 @@
 use std::iter;
 
 use super::rng::Rng;
-use super::{blocks, lists, marks, meta, trace, Known, Specimen};
+use super::{blocks, dcpi, lists, marks, meta, trace, Known, Specimen};
 use crate::lent::LentFile;
 use crate::question::Function::{self, *};
 use crate::question::{Database, Question, FUNCTIONS};
 use crate::reader::walk::RECORD_WORDS;
+use crate::writer::ENTRY;
 
 /// Files longer than this are asked less.
 const LONG: usize = 100_000;
@@ -42,7 +43,7 @@ pub fn follow_ups(question: &Question, code: u32, out: &[u64]) -> Vec<Question> 
 
 /// How often each function is asked of a file of its kind: those with more to find more often. The writer is asked of
 /// lists.
-const WEIGHTS: [(Function, usize); 30] = [
+const WEIGHTS: [(Function, usize); 33] = [
     (MetaOpen, 1),
     (MetaCounts, 1),
     (MetaTitle, 1),
@@ -73,6 +74,9 @@ const WEIGHTS: [(Function, usize); 30] = [
     (TraceLine, 2),
     (TraceSample, 3),
     (TraceAt, 4),
+    (DcpiTotals, 2),
+    (DcpiLookup, 5),
+    (DcpiEntries, 5),
 ];
 
 fn some_function(rng: &mut Rng, database: Database) -> Function {
@@ -92,6 +96,7 @@ fn question(rng: &mut Rng, specimen: &Specimen) -> Question {
         Known::Blocks(known) => blocks_question(rng, specimen.database, known, specimen.focus),
         Known::Trace(known) => trace_question(rng, known, specimen.focus),
         Known::Lists(known) => write_question(rng, known),
+        Known::Dcpi(known) => dcpi_question(rng, known, specimen.focus),
     }
 }
 
@@ -120,6 +125,10 @@ fn stray_question(rng: &mut Rng) -> Question {
             question.survey.profiles = (0..rng.below(4)).map(|_| rng.below(3) as u64).collect();
             question.survey.tuples = (0..rng.below(4)).map(|_| rng.below(3) as u64).collect();
             question.survey.identifiers = (0..rng.below(120)).map(|_| rng.word() as u8).collect();
+        }
+        DcpiEntries => {
+            question.numbers = [u64::from(rng.edge() as u32), u64::from(rng.edge() as u16), 0];
+            question.byte_room = rng.below(100);
         }
         _ => {}
     }
@@ -320,4 +329,55 @@ fn trace_question(rng: &mut Rng, known: &trace::Known, focus: Option<usize>) -> 
 fn write_question(rng: &mut Rng, known: &lists::Known) -> Question {
     let byte_room = room(rng, known.length);
     Question { byte_room, survey: known.survey.clone(), ..Question::new(ProfileWrite, [0; 3]) }
+}
+
+fn dcpi_question(rng: &mut Rng, known: &dcpi::Known, focus: Option<usize>) -> Question {
+    let function = some_function(rng, Database::Dcpi);
+    let mut question = Question::new(function, [0; 3]);
+    match function {
+        DcpiLookup => question.numbers[0] = offset(rng, known, focus),
+        DcpiEntries => {
+            // mostly one of the first profiles, so that a file of few has it
+            let profile = if rng.one_in(3) { rng.edge() as u32 } else { rng.below(4) as u32 };
+            question.numbers = [profile.into(), u64::from(rng.edge() as u16), 0];
+            question.byte_room = room_for_entries(rng, known.not_zero);
+        }
+        _ => {}
+    }
+    question
+}
+
+/// Mostly in a chunk, the damaged one if there is one; else at its edges, just outside, or there only modulo 2^32.
+fn offset(rng: &mut Rng, known: &dcpi::Known, focus: Option<usize>) -> u64 {
+    let any = rng.below(known.chunks.len().max(1));
+    let focus = focus.filter(|_| !rng.one_in(3)).unwrap_or(any);
+    let Some(chunk) = known.chunks.get(focus) else {
+        return rng.edge();
+    };
+    let inside = chunk.offset + rng.below(chunk.number) as u64;
+    match rng.below(16) {
+        0 => chunk.offset,
+        1 => chunk.end() - 1,
+        2 => chunk.offset.wrapping_sub(rng.between(1, 3) as u64),
+        3 => chunk.end() + rng.below(3) as u64,
+        4 => inside.wrapping_add(1 << rng.between(32, 63)),
+        5 => rng.edge(),
+        6 => rng.word() >> 32,
+        _ => inside,
+    }
+}
+
+/// Bytes for so many entries: just enough, with a piece behind them, one byte, one entry or a part of one too few.
+fn room_for_entries(rng: &mut Rng, entries: usize) -> usize {
+    let exact = ENTRY * entries;
+    match rng.below(16) {
+        0 => 0,
+        1 => exact.saturating_sub(1),
+        2 => exact.saturating_sub(ENTRY),
+        3 => exact.saturating_sub(rng.between(1, ENTRY)),
+        4..6 => exact + rng.between(1, ENTRY - 1),
+        6..8 => exact + rng.below(4 * ENTRY),
+        8 => rng.below(exact + ENTRY),
+        _ => exact,
+    }
 }

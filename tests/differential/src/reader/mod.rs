@@ -1,7 +1,9 @@
 //! An independent reader of HPCToolkit 4.0 databases in plain safe Rust, written from documents 01 (the rules), 02
-//! (requests that change them) and 004 (the format) alone. Every function takes the bytes of a file and opens them afresh.
+//! (requests that change them) and 004 (the format) alone, and of DCPI samples, from 02 and 000. Every function takes
+//! the bytes of a file and opens them afresh.
 
 pub mod cct;
+pub mod dcpi;
 pub mod meta;
 pub mod profile;
 pub mod trace;
@@ -39,6 +41,7 @@ pub enum Refusal {
     Room,
     Mark,
     Spelling,
+    Total,
 }
 
 impl Refusal {

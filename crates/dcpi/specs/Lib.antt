@@ -1,0 +1,4 @@
+pub mod Samples
+pub mod Check
+pub mod Answers
+pub mod Facts
