@@ -31,9 +31,9 @@
 /* The version of the library, which is not that of the format. The second number rises with a change of a declaration here, or of what a
  * code is given for. */
 #define HPCDB_VERSION_MAJOR 0
-#define HPCDB_VERSION_MINOR 7
+#define HPCDB_VERSION_MINOR 8
 #define HPCDB_VERSION_PATCH 0
-#define HPCDB_LIBRARY_VERSION "0.7.0"
+#define HPCDB_LIBRARY_VERSION "0.8.0"
 
 #ifdef __cplusplus
 extern "C" {
@@ -208,6 +208,7 @@ enum hpcdb_record {
     HPCDB_RECORD_LINE,
     HPCDB_RECORD_MODULE,
     HPCDB_RECORD_OFFSET,
+    HPCDB_RECORD_PARENT,       /* the place of the context whose child it is; 0 for a root */
     HPCDB_RECORD_WORDS         /* how many they are */
 };
 
@@ -224,6 +225,7 @@ uint32_t hpcdb_meta_records(const uint8_t *file, size_t file_length, uint64_t *l
  * and new_mark is then not looked at; any other number asks for one. A new mark names the last context listed; if none is, it is the mark
  * that was given (that of depth 0 if none was). A mark may be kept as long as the file is the same, and given with a listing and a table
  * of other lengths. It has no trace of its file: with another one the walk goes on from whatever context has those numbers there, or MARK.
+ * The parent in a record is the one that it has without a mark, listed or not.
  *
  * The bytes of a mark: u16 length, of the whole mark; u16 kind, 1; u8 depth, at most 200; then for each level, from the root down to the
  * context, a u32: its number among its siblings, from 0. All are little-endian, and the length is 5 + 4 depth. Depth 0 (05 00 01 00 00)

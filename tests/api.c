@@ -64,6 +64,22 @@ static void sections_of_w(void)
     CODE("a cut file", hpcdb_meta_open(file, length - 1, out), 16, HPCDB_FOOTER);
 }
 
+/* In the order in which they are listed: A, C, D, B. */
+static const uint64_t records_of_w[4][HPCDB_RECORD_WORDS] = {
+    {216, 1, 1, 1, 0, 0, 0, 0, 0, 0, 0, 0},
+    {264, 2, 2, 0, 1, 0, 0, 0, 0, 0, 0, 216},
+    {288, 2, 3, 0, 2, 0, 0, 0, 0, 0, 0, 216},
+    {240, 1, 4, 1, 0, 0, 0, 0, 0, 0, 0, 0}};
+
+/* Of so many words: n records of W from `first` on, and behind them every word as it was. */
+static void expect_records(const char *what, const uint64_t *words, size_t length, const uint64_t (*first)[HPCDB_RECORD_WORDS], size_t n)
+{
+    for (size_t i = 0; i < length; i++) {
+        size_t record = i / HPCDB_RECORD_WORDS;
+        expect(what, words[i], record < n ? first[record][i % HPCDB_RECORD_WORDS] : 0xa5a5a5a5a5a5a5a5);
+    }
+}
+
 static void walks_of_w(void)
 {
     uint64_t listing[5], table[5], records[4 * HPCDB_RECORD_WORDS + 1], out[1];
@@ -72,14 +88,11 @@ static void walks_of_w(void)
     expect("whole", hpcdb_meta_records(file, length, listing, 5, table, 5, records, 4 * HPCDB_RECORD_WORDS + 1, out), HPCDB_OK);
     expect("listed", out[0], 4);
     static const uint64_t places[] = {216, 264, 288, 240, 0xa5a5a5a5a5a5a5a5}, slots[] = {0, 216, 264, 288, 240};
-    static const uint64_t d[HPCDB_RECORD_WORDS] = {288, 2, 3, 0, 2, 0, 0, 0, 0, 0, 0};
     for (int i = 0; i < 5; i++) {
         expect("a word of the listing", listing[i], places[i]);
         expect("a slot of the table", table[i], slots[i]);
     }
-    for (int i = 0; i < HPCDB_RECORD_WORDS; i++)
-        expect("a word of a record", records[2 * HPCDB_RECORD_WORDS + i], d[i]);
-    expect("the word behind the records", records[4 * HPCDB_RECORD_WORDS], 0xa5a5a5a5a5a5a5a5);
+    expect_records("a word of the records, or behind them", records, sizeof records / 8, records_of_w, 4);
     expect("cut", hpcdb_meta_walk(file, length, listing, 3, table, 5, out), HPCDB_CUT);
     expect("listed before the cut", out[0], 3);
     expect("no slot", hpcdb_meta_walk(file, length, listing, 5, table, 4, out), HPCDB_SLOT);
@@ -134,8 +147,7 @@ static void marks_of_w(void)
     expect("listed after C", lent.out[0], 1);
     expect("the word of D", lent.listing[0], 288);
     expect("the word behind it", lent.listing[1], 0xa5a5a5a5a5a5a5a5);
-    expect("the record of D", lent.records[HPCDB_RECORD_CTX_ID], 3);
-    expect("the record behind it", lent.records[HPCDB_RECORD_WORDS], 0xa5a5a5a5a5a5a5a5);
+    expect_records("the record of D, whose parent is not listed", lent.records, sizeof lent.records / 8, records_of_w + 2, 1);
     expect_table("the table up to D", 5, all_but_b);
     expect_mark("the mark of D", mark_of_d, 13);
     expect("on from B", go_on(mark_of_b, 9, 4, 5, HPCDB_MARK_ROOM), HPCDB_OK);
@@ -146,6 +158,27 @@ static void marks_of_w(void)
     expect("listed after D", lent.out[0], 0);
     expect_table("the table without B's slot", 4, all_but_b);
     expect_mark("the mark of D again", mark_of_d, 13);
+}
+
+/* Words lent for records, and how many whole ones they have room for. */
+static void records_in_little_room(void)
+{
+    static const struct {
+        size_t words, whole;
+    } rooms[] = {{0, 0}, {11, 0}, {12, 1}, {23, 1}, {24, 2}};
+    for (size_t i = 0; i < sizeof rooms / sizeof *rooms; i++) {
+        memset(&lent, 0xa5, sizeof lent);
+        uint32_t code = hpcdb_meta_records(file, length, lent.listing, 4, lent.table, 5, lent.records, rooms[i].words, lent.out);
+        expect("all, with few records", code, HPCDB_OK);
+        expect("all listed, with few records", lent.out[0], 4);
+        expect_records("few records", lent.records, sizeof lent.records / 8, records_of_w, rooms[i].whole);
+        memset(&lent, 0xa5, sizeof lent);
+        code = hpcdb_meta_walk_from(file, length, mark_of_c, 13, 0, lent.listing, 4, lent.table, 5, lent.records, rooms[i].words, NULL, 0,
+                                    lent.out);
+        expect("on from C, with few records", code, HPCDB_OK);
+        expect("listed after C, with few records", lent.out[0], 2);
+        expect_records("few records after C", lent.records, sizeof lent.records / 8, records_of_w + 2, rooms[i].whole);
+    }
 }
 
 static void marks_before_the_roots(void)
@@ -234,6 +267,19 @@ static void walks_in_parts(void)
     walk_in_parts("crates/walk_cases/data/roots-1024.db", 256);
 }
 
+/* Three levels below a root; siblings behind another's children, at depths 3 and 2; a root behind them all. */
+static void parents(void)
+{
+    static const uint64_t want[7][2] = {{600, 0}, {648, 600}, {696, 648}, {744, 696}, {720, 648}, {672, 600}, {624, 0}};
+    uint64_t listing[7], table[8], records[7 * HPCDB_RECORD_WORDS], out[1];
+    load("crates/walk_cases/data/parents.db");
+    expect("whole", hpcdb_meta_records(file, length, listing, 7, table, 8, records, 7 * HPCDB_RECORD_WORDS, out), HPCDB_OK);
+    for (int i = 0; i < 7; i++) {
+        expect("a place", records[i * HPCDB_RECORD_WORDS + HPCDB_RECORD_PLACE], want[i][0]);
+        expect("its parent", records[i * HPCDB_RECORD_WORDS + HPCDB_RECORD_PARENT], want[i][1]);
+    }
+}
+
 /* The first of two contexts: its record; and where the second stands. */
 static void first_of_two(const char *path, const uint64_t record[HPCDB_RECORD_WORDS], uint64_t second)
 {
@@ -249,8 +295,8 @@ static void first_of_two(const char *path, const uint64_t record[HPCDB_RECORD_WO
 /* Of the flags only the lowest three bits bring fields; a word that no field needs moves the next sibling on, and nothing else. */
 static void flags_mod_8(void)
 {
-    static const uint64_t row_6[HPCDB_RECORD_WORDS] = {600, 1, 1, 0, 0, 6, 0, 360, 77, 264, 0x401000};
-    static const uint64_t row_7[HPCDB_RECORD_WORDS] = {600, 1, 1, 0, 0, 7, 488, 360, 77, 264, 0x401000};
+    static const uint64_t row_6[HPCDB_RECORD_WORDS] = {600, 1, 1, 0, 0, 6, 0, 360, 77, 264, 0x401000, 0};
+    static const uint64_t row_7[HPCDB_RECORD_WORDS] = {600, 1, 1, 0, 0, 7, 488, 360, 77, 264, 0x401000, 0};
     first_of_two("crates/walk_cases/data/flags-14.db", row_6, 600 + 56);
     first_of_two("crates/walk_cases/data/flags-255.db", row_7, 600 + 64);
     first_of_two("crates/walk_cases/data/flags-6-5-words.db", row_6, 600 + 64);
@@ -595,9 +641,11 @@ int main(void)
     sections_of_w();
     walks_of_w();
     marks_of_w();
+    records_in_little_room();
     marks_before_the_roots();
     no_new_marks();
     walks_in_parts();
+    parents();
     flags_mod_8();
     names();
     names_in_utf_8();

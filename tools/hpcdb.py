@@ -297,7 +297,7 @@ def trail(file, slots):
     modules, sources, functions = (stored(file, k) for k in (5, 6, 7))
     taken = set()
 
-    def contexts(at, size, depth):
+    def contexts(at, size, depth, parent):
         end = at + size
         while at < end:
             if at + 24 > end:
@@ -322,15 +322,15 @@ def trail(file, slots):
             if ctx in taken:
                 raise Refused(14)
             taken.add(ctx)
-            yield [at, depth, ctx, relation, lexical, flags % 8] + flex
-            yield from contexts(children, below, depth + 1)
+            yield [at, depth, ctx, relation, lexical, flags % 8] + flex + [parent]
+            yield from contexts(children, below, depth + 1, at)
             at = after
-    yield from contexts(number(file, section[0] + 8, 8), number(file, section[0], 8), 1)
+    yield from contexts(number(file, section[0] + 8, 8), number(file, section[0], 8), 1, 0)
 
 
 def walk(file, room, slots):
     """(end, listed): ("whole",), ("cut",) or ("refused", number), and the records listed: place, depth, ctxId, relation, lexicalType,
-    flags mod 8, function, file, line, module, offset."""
+    flags mod 8, function, file, line, module, offset, the parent's place or 0."""
     listed = []
     try:
         for record in trail(file, slots):

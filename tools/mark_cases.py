@@ -2,10 +2,11 @@
 to each walk stand the end that the rules give it and what it leaves, written by hand."""
 import os
 from hpcdb import *
-from walk_cases import LIMIT, N, SOUND, Node, W, chain, damaged, edited, flags, flex, grown, ident, kids, meta, ten, words
+from walk_cases import LIMIT, N, SOUND, Node, W, chain, damaged, edited, flags, flex, grown, ident, kids, meta, seven, ten, words
 
 HERE = os.path.join(os.path.dirname(os.path.abspath(__file__)), "..", "crates", "mark_cases")
 BEFORE, BYTE_BEFORE = 7, 255
+RECORD = 12
 files, marks, lines = {}, {}, []
 
 # What a walk leaves that hands out no mark, whether it is asked or not. Any other leaves, with the listing, the table of all contexts up to
@@ -42,14 +43,29 @@ def joined(name, file, mark, slots, *parts, **how):
 
 
 def handed_on(file, mark, slots, rooms):
-    """What walks with this room have listed, each from the mark that the one before it handed out; the last one's end, table and mark."""
-    listed, given = [], mark_of(mark)
+    """What walks with this room have listed, each from the mark that the one before it handed out, with the records; the last one's end,
+    table and mark."""
+    listed, records, given = [], [], mark_of(mark)
     for room in rooms:
-        listing, table, new = [BEFORE] * room, [BEFORE] * slots, bytearray([BYTE_BEFORE] * MARK_ROOM)
-        end, n = walk_from(file, given, True, listing, table, [], new)
+        listing, table, rows, new = [BEFORE] * room, [BEFORE] * slots, [BEFORE] * (RECORD * room), bytearray([BYTE_BEFORE] * MARK_ROOM)
+        end, n = walk_from(file, given, True, listing, table, rows, new)
         listed += listing[:n]
+        records += rows[:RECORD * n]
         given = bytes(new[:number(new, 0, 2)])
-    return listed, end, table, given
+    return listed, records, end, table, given
+
+
+def recorded(file, mark, room, words):
+    """So many words lent for records, as a walk leaves them."""
+    rows = [BEFORE] * words
+    walk_from(file, mark_of(mark), False, [BEFORE] * room, [BEFORE] * 1024, rows, bytearray())
+    return rows
+
+
+def with_records(records, words):
+    """So many words that have these records, as far as there is room for whole ones."""
+    whole = sum(records[:words // RECORD], [])
+    return whole + [BEFORE] * (words - len(whole))
 
 
 # ---- 1. W: A (216, id 1) at 0, C (264, 2) at 0 0, D (288, 3) at 0 1, B (240, 4) at 1
@@ -84,10 +100,13 @@ for lent in 805, 806, 1000, 1024:
 case("w", W, (B, 4, 5, "whole 0", B, UNASKED), (D, 4, 4, "refused 13 0", D, UNASKED), (B, 4, 4, "refused 13 0", CLEARED, UNASKED),
      (b"", 4, 5, "whole 4", B, {"asks": 0, "lent": 0, "name": "none"}), (C, 1, 5, "cut 1", D, {"asks": 2}))
 # records are those of the contexts listed
-for records in 0, 10, 11, 12, 21, 22, 33, 50:
-    case("w", W, (C, 2, 5, "whole 2", B, {"records": records}), (C, 1, 5, "cut 1", D, {"records": records}))
-case("w", W, (B, 4, 5, "whole 0", B, {"records": 22}), ([2], 4, 5, "refused 18 0", CLEARED, {"records": 22}),
-     (b"", 4, 5, "whole 4", B, {"records": 44, "name": "none"}))
+OF_W = [[216, 1, 1, 1, 0] + [0] * 6 + [0], [264, 2, 2, 0, 1] + [0] * 6 + [216], [288, 2, 3, 0, 2] + [0] * 6 + [216], [240, 1, 4, 1, 0] + [0] * 6 + [0]]
+for records in 0, 11, 12, 13, 23, 24, 36, 50:
+    case("w", W, (C, 2, 5, "whole 2", B, {"records": records}), (C, 1, 5, "cut 1", D, {"records": records}),
+         (b"", 4, 5, "whole 4", B, {"records": records, "name": "none"}))
+    assert recorded(W, [], 4, records) == with_records(OF_W, records) and recorded(W, C, 2, records) == with_records(OF_W[2:], records)
+case("w", W, (B, 4, 5, "whole 0", B, {"records": 24}), ([2], 4, 5, "refused 18 0", CLEARED, {"records": 24}),
+     (b"", 4, 5, "whole 4", B, {"records": 48, "name": "none"}))
 
 # ---- 2. marks that are malformed: opening comes before, and the room for a new mark before both
 GOOD = mark_of(C)
@@ -108,7 +127,7 @@ for name, data in {
         "bytes-1": b"\5", "bytes-2": b"\5\0", "bytes-3": b"\5\0\1", "bytes-4": b"\5\0\1\0", "bytes-6": mark_of([]) + b"\0", "bytes-805-of-0": bytes(805),
         "bytes-1-length-1": b"\1", "bytes-2-length-2": b"\2\0", "bytes-3-length-3": b"\3\0\1", "bytes-4-length-4": b"\4\0\1\0",
         "before-the-roots-length-4": edited(mark_of([]), (0, b"\4")), "before-the-roots-kind-2": edited(mark_of([]), (2, b"\2"))}.items():
-    how = {"name": "malformed-" + name, "records": 11}
+    how = {"name": "malformed-" + name, "records": 12}
     case("w", W, (data, 2, 5, "refused 18 0", UNTOUCHED, how), (data, 0, 0, "refused 18 0", UNTOUCHED, dict(how, asks=0)))
     case("magic", magic, (data, 2, 5, "refused 2 0", UNTOUCHED, how), (data, 2, 5, "refused 17 0", UNTOUCHED, dict(how, lent=804)))
 BAD = {"name": "malformed-length-12"}
@@ -145,15 +164,18 @@ for n, edit in {10: words(P[3], 0), 9: flex(P[3], 0, N + 1), 7: kids(P[3], P[1],
 f, P = chain(200)
 for depth in 1, 2, 100, 198, 199:
     case("deep-200", f, ([0] * depth, 200, 201, "whole %d" % (200 - depth), [0] * 200, {"name": "zeros-%d" % depth}),
-         ([0] * depth, 1, 201, "whole 1" if depth == 199 else "cut 1", [0] * (depth + 1), {"name": "zeros-%d" % depth}))
+         ([0] * depth, 1, 201, "whole 1" if depth == 199 else "cut 1", [0] * (depth + 1), {"name": "zeros-%d" % depth, "records": 12}))
+    assert recorded(f, [0] * depth, 1, 12)[11] == P[depth]
 ZEROS = {"name": "zeros-200"}
 case("deep-200", f, (b"", 200, 201, "whole 200", [0] * 200, NO_MARK), (b"", 200, 201, "whole 200", [0] * 200, {"name": "none", "lent": 1024}),
      (b"", 199, 201, "cut 199", [0] * 199, NO_MARK), ([0] * 200, 200, 201, "whole 0", [0] * 200, ZEROS), ([0] * 200, 0, 201, "whole 0", [0] * 200, ZEROS),
      ([0] * 200, 200, 200, "refused 13 0", CLEARED, ZEROS), ([0] * 199, 200, 200, "refused 13 0", [0] * 199, {"name": "zeros-199"}),
      ([0] * 199 + [1], 200, 201, "refused 18 0", CLEARED, {"name": "zeros-199-and-1"}),
      ([1] + [0] * 199, 200, 201, "refused 18 0", CLEARED, {"name": "1-and-zeros-199"}))
-case("deep-200-and-more-roots", chain(200, Node(500), Node(501))[0], ([0] * 200, 9, 502, "whole 2", [2], ZEROS), ([0] * 200, 1, 502, "cut 1", [1], ZEROS),
+more_roots, Q = chain(200, Node(500), Node(501))
+case("deep-200-and-more-roots", more_roots, ([0] * 200, 9, 502, "whole 2", [2], dict(ZEROS, records=24)), ([0] * 200, 1, 502, "cut 1", [1], ZEROS),
      ([0] * 200, 1, 501, "refused 13 1", [1], ZEROS), ([1], 9, 502, "whole 1", [2]), ([1, 0], 9, 502, "refused 18 0", CLEARED))
+assert recorded(more_roots, [0] * 199, 3, 36)[11::12] == [Q[199], 0, 0]
 case("deep-201", chain(201)[0], ([0] * 200, 9, 1024, "refused 12 0", [0] * 200, ZEROS), ([0] * 200, 0, 202, "refused 12 0", [0] * 200, ZEROS),
      ([0] * 199, 9, 202, "refused 12 1", [0] * 200, {"name": "zeros-199"}), ([0] * 199, 0, 202, "cut 0", [0] * 199, {"name": "zeros-199"}),
      ([0] * 199 + [1], 9, 202, "refused 12 0", CLEARED, {"name": "zeros-199-and-1"}), ([1], 9, 202, "refused 12 0", CLEARED),
@@ -172,8 +194,10 @@ case("children-599", f, ([0, 598], 9, 600, "whole 0", [0, 598]), ([0, 599], 9, 6
 f, P = ten()
 TEN = [[0], [0, 0], [0, 0, 0], [0, 0, 1], [0, 1], [0, 1, 0], [0, 1, 1], [0, 1, 1, 0], [0, 1, 1, 1], [1]]
 for i, path in enumerate(TEN):
-    case("tree", f, (path, 10, 11, "whole %d" % (9 - i), [1]), (path, 1, 11, "cut 1" if i < 8 else "whole %d" % (9 - i), TEN[min(i + 1, 9)], {"records": 11}),
+    case("tree", f, (path, 10, 11, "whole %d" % (9 - i), [1]), (path, 1, 11, "cut 1" if i < 8 else "whole %d" % (9 - i), TEN[min(i + 1, 9)], {"records": 12}),
          (path, 10, 8, "refused 13 %d" % max(6 - i, 0), TEN[6] if i < 7 else CLEARED), (path, 0, 11, "cut 0" if i < 9 else "whole 0", path))
+# the parent of the next one, by the ids; no context above it is listed
+assert [recorded(f, path, 1, 12)[11] for path in TEN[:9]] == [P[1], P[2], P[2], P[1], P[5], P[5], P[7], P[7], 0]
 for path in [0, 2], [0, 0, 2], [0, 1, 2], [0, 1, 0, 0], [0, 1, 1, 2], [0, 1, 1, 1, 0], [1, 0], [1, 1], [2], [1, 1, 1, 1]:
     case("tree", f, (path, 10, 11, "refused 18 0", CLEARED), (path, 10, 8, "refused 13 0", CLEARED))
 backwards = ten(arrange=lambda arrays: arrays[::-1])[0]
@@ -181,15 +205,21 @@ case("tree-backwards", backwards, (TEN[3], 2, 11, "cut 2", TEN[5]), (TEN[8], 2, 
 damaged_at_8 = edited(f, ident(P[8], 3))
 case("tree-14-cousin", damaged_at_8, (TEN[6], 9, 11, "refused 14 0", TEN[6]), (TEN[5], 9, 11, "refused 14 1", TEN[6]), (TEN[7], 9, 11, "refused 14 0", CLEARED),
      (TEN[8], 9, 11, "refused 14 0", CLEARED), (TEN[9], 9, 11, "refused 14 0", CLEARED))
+# behind 2, and behind all below it: the parents of 5 and 6 come before the mark
+g, Q = seven()
+case("parents", g, ([0, 0], 5, 8, "whole 5", [1], {"records": 60}), ([0, 0, 0, 0], 3, 8, "whole 3", [1], {"records": 36}),
+     ([0, 0, 1], 1, 8, "cut 1", [0, 1], {"records": 12}))
+assert recorded(g, [0, 0], 5, 60)[11::12] == [Q[2], Q[3], Q[2], Q[1], 0] and recorded(g, [0, 0, 0, 0], 3, 36)[11::12] == [Q[2], Q[1], 0]
 # a child that lies in its parent's flex, and an array that is reached again
 g, Q = meta(Node(1, more=(0, 0, 2)), Node(3))
-case("child-in-flex", edited(g, kids(Q[1], Q[1] + 24, 24)), ([0], 9, 4, "whole 2", [1]), ([0, 0], 9, 4, "whole 1", [1]), ([0, 0], 0, 4, "cut 0", [0, 0]))
+case("child-in-flex", edited(g, kids(Q[1], Q[1] + 24, 24)), ([0], 9, 4, "whole 2", [1], {"records": 24}), ([0, 0], 9, 4, "whole 1", [1], {"records": 12}),
+     ([0, 0], 0, 4, "cut 0", [0, 0]))
 g, Q = meta(Node(1, Node(2, Node(3))), Node(4), slack=24)
-case("looped", edited(g, kids(Q[2], Q[1], 48)), ([0, 0], 9, 5, "refused 14 0", [0, 0]),
+case("looped", edited(g, kids(Q[2], Q[1], 48)), ([0], 9, 5, "refused 14 1", [0, 0], {"records": 24}), ([0, 0], 9, 5, "refused 14 0", [0, 0]),
      ([0, 0, 0], 9, 5, "refused 14 0", CLEARED), ([1], 9, 5, "refused 14 0", CLEARED))
 
 # ---- 8. parts that are one walk
-joined("w", W, [], 5, (1, "cut 1", A), (1, "cut 1", C), (2, "whole 2", B), records=22)
+joined("w", W, [], 5, (1, "cut 1", A), (1, "cut 1", C), (2, "whole 2", B), records=24)
 joined("w", W, [], 5, (2, "cut 2", C), (2, "whole 2", B))
 joined("w", W, [], 5, (0, "cut 0", []), (3, "cut 3", D), (0, "cut 0", D), (1, "whole 1", B), (0, "whole 0", B), (4, "whole 0", B))
 joined("w", W, [], 5, (1, "cut 1", A), (2, "cut 2", D))
@@ -198,7 +228,7 @@ joined("w", W, [], 4, (1, "cut 1", A), (1, "cut 1", C), (2, "refused 13 1", D), 
 joined("w-c-id-1", w_twice, [], 5, (0, "cut 0", []), (1, "refused 14 1", A), (1, "refused 14 0", A))
 joined("w-a-flags-1", w_first, [], 5, (1, "refused 10 0", []), (0, "refused 10 0", []))
 joined("roots-none", files["roots-none.db"], [], 5, (0, "whole 0", []), (3, "whole 0", []))
-joined("tree", f, [], 11, (3, "cut 3", TEN[2]), (0, "cut 0", TEN[2]), (4, "cut 4", TEN[6]), (3, "whole 3", [1]), records=44)
+joined("tree", f, [], 11, (3, "cut 3", TEN[2]), (0, "cut 0", TEN[2]), (4, "cut 4", TEN[6]), (3, "whole 3", [1]), records=48)
 joined("tree", f, TEN[1], 11, *((1, "cut 1", path) for path in TEN[2:9]), (1, "whole 1", [1]))
 joined("tree", f, [], 9, (4, "cut 4", TEN[3]), (3, "cut 3", TEN[6]), (2, "refused 13 1", TEN[7]), (1, "refused 13 0", TEN[7]))
 joined("tree-14-cousin", damaged_at_8, TEN[3], 11, (2, "cut 2", TEN[5]), (0, "cut 0", TEN[5]), (1, "refused 14 1", TEN[6]), (1, "refused 14 0", TEN[6]))
@@ -233,7 +263,7 @@ for i in range(30):
         met = []
     for _ in range(5):
         room, slots = dice.of((130, 1, dice.below(len(nodes) + 1))), len(nodes) + 8 - dice.of((0, 0, dice.below(20)))
-        how = {"asks": dice.of((0, 1, 1, 1)), "records": dice.of((0, 11, 30))}
+        how = {"asks": dice.of((0, 1, 1, 1)), "records": dice.of((0, 12, 30))}
         case("random-%02d" % i, f, (mark_near(dice, met), room, slots, None, None, how))
 
 
@@ -262,9 +292,11 @@ def is_left(file, asks, n, left, listing, table, rows, new):
     if left == CLEARED:
         return as_before(listing + rows, new) and not any(table)
     up_to = [record for path, record in trail_with_paths(file, len(table))[0] if path <= left]
+    listed = up_to[len(up_to) - n:]
     mark = mark_of(left) if asks else b""
     return {record[2]: record[0] for record in up_to} == {slot: place for slot, place in enumerate(table) if place} \
-        and listing[:n] == [record[0] for record in up_to[len(up_to) - n:]] and new[:len(mark)] == mark and as_before(listing[n:], new[len(mark):])
+        and listing[:n] == [record[0] for record in listed] and rows == with_records(listed, len(rows)) \
+        and new[:len(mark)] == mark and as_before(listing[n:], new[len(mark):])
 
 
 if __name__ == "__main__":

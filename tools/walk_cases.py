@@ -55,7 +55,9 @@ class Node:
         self.ctx, self.children, self.bits, self.fields, self.more, self.kind, self.relation = ctx, children, bits, fields, more, kind, relation
         function, source, line, module, offset = fields
         self.words = [function] * (bits & 1) + [source, line] * (bits >> 1 & 1) + [module, offset] * (bits >> 2 & 1) + list(more)
-        self.place = None
+        self.place = self.parent = None
+        for child in children:
+            child.parent = self
 
     def data(self):
         size = sum(24 + 8 * len(c.words) for c in self.children)
@@ -66,6 +68,7 @@ class Node:
         f, s, line, m, o = self.fields
         b = [self.bits & 1, self.bits >> 1 & 1, self.bits >> 2 & 1]
         mine = [self.place, depth, self.ctx, self.relation, self.kind, self.bits % 8, f * b[0], s * b[1], line % 2 ** 32 * b[1], m * b[2], o * b[2]]
+        mine.append(self.parent.place if self.parent else 0)
         return [mine] + [r for c in self.children for r in c.records(depth + 1)]
 
 
@@ -104,6 +107,11 @@ def meta(*tree, strides=STRIDES, slack=0, length=0, arrange=list):
     pairs[3] = P["tree"], len(f) - P["tree"]
     f += bytes(max(40, length - len(f) - 8)) + b"_meta.db"
     return front("meta", pairs) + f[144:], P
+
+
+def parents(file):
+    """Each context that a walk lists, and its parent: their places."""
+    return [(r[0], r[11]) for r in walk(file, 1024, 1024)[1]]
 
 
 # ---- 1. W: A (216, id 1), C (264, 2), D (288, 3), B (240, 4)
@@ -157,10 +165,15 @@ case("shared-array", edited(f, kids(P[4], P[3], 24)), "refused 14 4", (4, 5, "re
 f, P = meta(Node(1), Node(2), Node(3, Node(4), Node(5)))
 case("overlap-inside", edited(f, kids(P[1], P[2], 24)), "refused 14 2")
 case("overlap-to-the-end", edited(f, kids(P[1], P[2], 48), kids(P[3], 0, 0)), "refused 14 3")
-case("overlap-and-beyond", edited(f, kids(P[1], P[3], 48), kids(P[3], 0, 0)), "refused 14 4", (4, 6, "refused 14 4"), (3, 6, "cut 3"))
+beyond = edited(f, kids(P[1], P[3], 48), kids(P[3], 0, 0))
+case("overlap-and-beyond", beyond, "refused 14 4", (4, 6, "refused 14 4"), (3, 6, "cut 3"))
+# 3 lies among the roots, and is met as a child of 1
+assert parents(beyond) == [(600, 0), (648, 600), (672, 600), (624, 0)]
 # the overlapped bytes are other contexts: B lies in A's flex, and is A's child
 f, P = meta(Node(1, more=(0, 0, 2)), Node(3))
-case("child-in-flex", edited(f, kids(P[1], P[1] + 24, 24)), "whole 3", (2, 4, "cut 2"))
+in_flex = edited(f, kids(P[1], P[1] + 24, 24))
+case("child-in-flex", in_flex, "whole 3", (2, 4, "cut 2"))
+assert parents(in_flex) == [(600, 0), (624, 600), (648, 0)]
 f, P = meta(Node(1, more=(0, 0, 1)), Node(3))
 case("child-in-flex-same-id", edited(f, kids(P[1], P[1] + 24, 24)), "refused 14 1")
 
@@ -181,6 +194,7 @@ case("deep-200-children-bad", edited(f, kids(P[200], P["end"] - 24, 25)), (200, 
 case("deep-200-looped", edited(f, kids(P[200], P[200], 24)), (200, 1024, "refused 12 200"))
 f, P = chain(200, Node(500), Node(501))
 case("deep-200-and-more-roots", f, "whole 202")
+assert parents(f)[199:] == [(P[200], P[199]), (P[500], 0), (P[501], 0)]
 f, P = chain(201)
 case("deep-201", f, "refused 12 200", (200, 1024, "refused 12 200"), (199, 1024, "cut 199"), (3, 1024, "cut 3"))
 case("deep-201-flex-few", edited(f, flags(P[201], 1)), (200, 1024, "refused 10 200"))
@@ -206,7 +220,7 @@ def eight(more=lambda needed: ()):
 f, P = meta(*eight())
 case("flags", f, "whole 8", (8, 8, "whole 8"), (7, 8, "cut 7"), (8, 7, "refused 13 7"))
 # by hand: function, file, line, module, offset
-assert [r[5:] for r in walk(f, 8, 8)[1]] == [
+assert [r[5:11] for r in walk(f, 8, 8)[1]] == [
     [0, 0, 0, 0, 0, 0],
     [1, 488, 0, 0, 0, 0],
     [2, 0, 328, 102, 0, 0],
@@ -226,7 +240,7 @@ for b, needed in enumerate([0, 1, 2, 3, 2, 3, 4, 5]):
 # flags mod 8: 14 is row 6, and 255 row 7
 for b, row, needed in ((14, [6, 0, F + 32, 77, M + 24, 0x401000], 4), (255, [7, *SOUND], 5)):
     f, P = meta(Node(1, bits=b, fields=SOUND), Node(2))
-    assert P[2] == P[1] + 24 + 8 * needed and walk(f, 2, 3)[1][0][5:] == row
+    assert P[2] == P[1] + 24 + 8 * needed and walk(f, 2, 3)[1][0][5:11] == row
     case("flags-%d" % b, f, (2, 3, "whole 2"))
     case("flags-%d-%d-words" % (b, needed - 1), edited(f, words(P[1], needed - 1)), (2, 3, "refused 10 0"))
 # a word more than flags 6 need, which belongs to nothing: the next sibling is 64 bytes on
@@ -240,7 +254,7 @@ TABLE = ((None, None, None, None, None), (0, None, None, None, None), (None, 0, 
          (None, None, None, 0, 8), (0, None, None, 8, 16), (None, 0, 8, 16, 24), (0, 8, 16, 24, 32))
 f, P = meta(*(Node(b, bits=b, fields=(N + 48 * (b % 3), F + 32 * (b % 3), 1000 + b, M + 24 * (b % 3), END - 1 - b)) for b in range(256)))
 for b, r in enumerate(walk(f, 256, 256)[1]):
-    assert r[6:] == [0 if at is None else number(f, P[b] + 24 + at, width) for at, width in zip(TABLE[b % 8], (8, 8, 4, 8, 8))]
+    assert r[6:11] == [0 if at is None else number(f, P[b] + 24 + at, width) for at, width in zip(TABLE[b % 8], (8, 8, 4, 8, 8))]
 case("flags-all", f, (256, 256, "whole 256"))
 f, P = meta(Node(1), Node(2), slack=48)
 case("24-bytes-at-the-end", f, "whole 2")
@@ -346,6 +360,20 @@ case("tree", f, "whole 10", (10, 11, "whole 10"), (9, 11, "cut 9"), (6, 11, "cut
 assert P[9] + 64 == P["end"] and [r[1:3] for r in walk(f, 10, 11)[1]] == [[1, 1], [2, 2], [3, 3], [3, 4], [2, 5], [3, 6], [3, 7], [4, 8], [4, 9], [1, 10]]
 case("tree-backwards", ten(arrange=lambda arrays: arrays[::-1])[0], "whole 10", (8, 11, "cut 8"), (8, 9, "refused 13 8"))
 case("tree-with-slack", ten(slack=5)[0], "whole 10")
+
+
+# grandchildren; siblings behind another's children, 5 at depth 3 and 6 at depth 2; a root behind them all. Listed from 1 to 7
+def seven(**how):
+    return meta(Node(1, Node(2, Node(3, Node(4)), Node(5)), Node(6)), Node(7), **how)
+
+
+g, _ = seven()
+case("parents", g, "whole 7", (6, 8, "cut 6"), (4, 8, "cut 4"))
+assert parents(g) == [(600, 0), (648, 600), (696, 648), (744, 696), (720, 648), (672, 600), (624, 0)]
+# every parent lies behind its children
+g, _ = seven(arrange=lambda arrays: arrays[::-1])
+case("parents-backwards", g, "whole 7")
+assert parents(g) == [(720, 0), (672, 720), (624, 672), (600, 624), (648, 672), (696, 720), (744, 0)]
 for name, place, size in [
         ("size-0", P[8], 0), ("size-0-far", END - 1, 0), ("place-0", 0, 88), ("place-0-size-large", 0, END - 1),
         ("off-multiple", P[8] + 4, 24), ("off-multiple-1", P[8] + 1, 1), ("in-last-byte-of-header", P["tree"] + 15, 24),
@@ -457,13 +485,25 @@ def show(name, file, room, slots):
         return out + ["too long"], "too long"
     end, listed = walk(file, room, slots)
     end = " ".join(map(str, end + (len(listed),)))
-    out.append("place depth id type relation")
-    out += ["%d %d %d %d %d" % (place, depth, ctx, kind, relation) for place, depth, ctx, relation, kind, *_ in listed]
+    out.append("place depth id type relation parent")
+    out += ["%d %d %d %d %d %d" % (place, depth, ctx, kind, relation, parent) for place, depth, ctx, relation, kind, *_, parent in listed]
     out.append(end)
-    out += ["flex " + " ".join(map(str, [r[0]] + r[5:])) for r in listed if r[5]]
+    out += ["flex " + " ".join(map(str, [r[0]] + r[5:11])) for r in listed if r[5]]
     table = ["%d %d" % (r[2], r[0]) for r in sorted(listed, key=lambda r: r[2])]
     out.append("table untouched" if opening("meta", file)[0] else " ".join(["table"] + table))
     return out, end
+
+
+# by hand: W, and a file that does not open
+assert show("w.db", W, 4, 5)[0][1:] == [
+    "place depth id type relation parent",
+    "216 1 1 0 1 0",
+    "264 2 2 1 0 216",
+    "288 2 3 2 0 216",
+    "240 1 4 0 1 0",
+    "whole 4",
+    "table 1 216 2 264 3 288 4 240"]
+assert show("magic.db", edited(W, (13, b"e")), 4, 5)[0][1:] == ["place depth id type relation parent", "refused 2 0", "table untouched"]
 
 
 if __name__ == "__main__":

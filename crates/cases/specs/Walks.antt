@@ -1,6 +1,6 @@
 -- What a walk says and leaves, in words. To unfold one of these is to unfold all that computes it: each case names it alone, with its file.
-use Prim.Native.Nat.{ℕ, _*_}
-use mathlib.Core.Bool.{Bool}
+use Prim.Native.Nat.{ℕ}
+use mathlib.Core.Bool.{Bool, false}
 use mathlib.Core.List.{List, [], _∷_}
 use lib.ListN.{replicate}
 use Rattle.le.specs.Number.{number}
@@ -13,7 +13,7 @@ use Rattle.array.specs.Element.{linkedBelow, linked}
 use Rattle.array.specs.Stored.{arrayOf}
 use Rattle.flex.specs.Packing.{bit, presence, isPresent, howMany, before, place, words}
 use Rattle.context.specs.Context.{extent, flexAt, contextRule, linkRule, linksRule, childrenRule, targetsOf}
-use Rattle.context.specs.Entry.{entryAt, entryWords, wordsEach}
+use Rattle.context.specs.Entry.{entryAt, entryWords}
 use Rattle.mark.specs.Mark.{numberFields, encode, wellFormed, numbersAt, decode, isNamed, pathIn}
 use Rattle.traversal.specs.Traversal.{Asked, ask, listOf, seen, slotCheck, visitCheck, enter, visit, bind, turn, siblings, level, fromRoots, traversal}
 use Rattle.traversal.specs.From.{samePath, pathIndex, skipped, isPassed, afterMark, upToMark, fromMark, lastPath}
@@ -29,13 +29,13 @@ unfoldable pub walked : (file : List ℕ) (listing table : ℕ) → List ℕ
 unfolding answerTo
 walked file listing table = answerTo (ask file unmarked (record { words = listing; slots = table; bytes = 0 }))
 
--- the same, and the records of what is listed, of which each word was 9
-unfoldable pub walkedRecords : (file : List ℕ) (listing table : ℕ) → List (List ℕ)
+-- from a mark, with the records of what is listed: words of which each was 9
+unfoldable pub walkedRecords : (file given : List ℕ) (listing table records : ℕ) → List (List ℕ)
 unfolding answerTo over entryWords wordsOf recordsWith
-walkedRecords file listing table =
-    let a = ask file unmarked (record { words = listing; slots = table; bytes = 0 }) in
+walkedRecords file given listing table records =
+    let a = ask file (marksWith given false) (record { words = listing; slots = table; bytes = 0 }) in
     answerTo a
-    ∷ recordsWith (listOf (walkOf a)) (replicate (listing * wordsEach) 9)
+    ∷ recordsWith (listOf (walkOf a)) (replicate records 9)
     ∷ []
 
 -- from a mark: the answer; the listing, of which each word was 8; the table, of which each was 7; the bytes for the new mark, each of

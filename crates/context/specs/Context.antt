@@ -1,5 +1,5 @@
 -- One context: document 01's "Contexts and the trail" for a context by itself, with document 004's fields.
-use Prim.Native.Nat.{ℕ, _+_, _*_}
+use Prim.Native.Nat.{ℕ, zero, suc, _+_, _*_}
 use mathlib.Core.Bool.{Bool, _&&_, _||_, not}
 use mathlib.Core.List.{List, [], _∷_}
 use lib.Dec.{leb, eqb}
@@ -49,6 +49,15 @@ flexWords = u8 23
 -- the bytes that the context at p takes
 unfoldable pub extent : List ℕ → (p : ℕ) → ℕ
 extent file p = 24 + 8 * field file p flexWords
+
+-- the place of context i of an array that starts at a place
+unfoldable pub siblingPlace : List ℕ → (start i : ℕ) → ℕ
+siblingPlace file start zero = start
+siblingPlace file start (suc i) = siblingPlace file start i + extent file (siblingPlace file start i)
+
+-- where the children of the context at p end
+abbrev pub childrenEnd : List ℕ → (p : ℕ) → ℕ
+childrenEnd file p = field file p childrenPlace + field file p childrenBytes
 
 -- ---- flex
 

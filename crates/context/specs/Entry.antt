@@ -44,8 +44,9 @@ entryAt f parent path p = record {
 -- the words of an entry that are handed out
 unfoldable pub entryWords : Entry → List ℕ
 entryWords e =
-    e .place ∷ e .depth ∷ e .ctxId ∷ e .relation ∷ e .lexicalType ∷ e .flags ∷ e .function ∷ e .file ∷ e .line ∷ e .loadModule ∷ e .offset ∷ []
+    e .place ∷ e .depth ∷ e .ctxId ∷ e .relation ∷ e .lexicalType ∷ e .flags ∷ e .function ∷ e .file ∷ e .line ∷ e .loadModule ∷ e .offset ∷
+    e .parent ∷ []
 
 -- how many they are
 abbrev pub wordsEach : ℕ
-wordsEach = 11
+wordsEach = 12

@@ -27,6 +27,6 @@ targetsIn ws = record {
 pub record Readable (file : List ℕ) (p : ℕ) : Type 0 where
   pub ends : p + 24 + 8 * words (field file p flags) ≤ length file
 
--- words that are those of the context at p, wherever at this depth it stands
-abbrev pub WordsOf : List ℕ → (p depth : ℕ) → List ℕ → Type 0
-WordsOf f p depth ws = (parent : ℕ) (path : List ℕ) → length path ≡ depth → ws ≡ entryWords (entryAt f parent path p)
+-- words that are those of the context at p, wherever at this depth below its parent it stands
+abbrev pub WordsOf : List ℕ → (p depth parent : ℕ) → List ℕ → Type 0
+WordsOf f p depth parent ws = (path : List ℕ) → length path ≡ depth → ws ≡ entryWords (entryAt f parent path p)

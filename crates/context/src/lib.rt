@@ -27,7 +27,7 @@ const FLEX_WORDS: usize = 23;
 const FLEX: usize = 24;
 
 // How many words a record has.
-pub const RECORD: usize = 11;
+pub const RECORD: usize = 12;
 
 // What the pointers of contexts may lead to, in words: place and size of the Context section; then place, count and stride of the
 // functions, files and modules.
@@ -170,10 +170,10 @@ pub fn children_rule(file: &[u8], targets: &[u64; TARGETS], p: usize) -> bool
     open::contexts_rule(targets[SECTION], 16, targets[SECTION_SIZE], place, bytes)
 }
 
-// What is handed out of a context, with its depth.
-pub fn entry_words(file: &[u8], p: usize, depth: u64) -> [u64; RECORD]
+// What is handed out of a context, with its depth and its parent's place.
+pub fn entry_words(file: &[u8], p: usize, depth: u64, parent: u64) -> [u64; RECORD]
     requires { ⌜ Readable (now file) p ⌝ }
-    ensures { λ r. ⌜ WordsOf (now (file .entry)) p depth r ⌝ }
+    ensures { λ r. ⌜ WordsOf (now (file .entry)) p depth parent r ⌝ }
 {
     let flags = le::load_u8(file, p + FLAGS);
     let has_source = flex::has_source(flags);
@@ -198,5 +198,6 @@ pub fn entry_words(file: &[u8], p: usize, depth: u64) -> [u64; RECORD]
         line,
         load_module,
         offset,
+        parent,
     ]
 }

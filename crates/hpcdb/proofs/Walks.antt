@@ -1,6 +1,6 @@
 -- What a C program learns of a walk, from a mark or without one, by its code and `out`: 0 that the trail ends whole, a refusal's number that
 -- it ends so, and in both that all of it is listed; 101 that it has more contexts than the listing has words; 17 and 18 by the mark rules
--- alone; and always how many are listed.
+-- alone; and always how many are listed. Of the records: whose child each context is.
 use Prim.Native.Nat.{ℕ, _≤_, _<_}
 use mathlib.Core.Bool.{true}
 use mathlib.Core.List.{List, [], _∷_}
@@ -23,8 +23,10 @@ use Rattle.traversal.specs.Traversal.{Marks, Outcome, on, cut, refused}
 use Rattle.traversal.specs.Walk.{trailFrom, walkedOf, numberListed, walkedWords, Slices, LeavesFrom}
 use Rattle.traversal.specs.Demand3.{Call, callOf, asked, listedNumber, trail, OneWalk}
 use Rattle.traversal.specs.Joined.{Roomy, MarkFails}
+use Rattle.traversal.specs.Parents.{Parents}
 use Rattle.traversal.proofs.Demand3.{not-cut, demand3}
 use Rattle.traversal.proofs.Outcomes.{outcomes}
+use Rattle.traversal.proofs.Parents.{parents}
 
 -- ---- codes tell answers apart
 
@@ -122,3 +124,7 @@ module _ (file : List ℕ) (m : Marks) (was : Slices) (code : ℕ) (out : List �
   -- a walk reads no string
   pub walk-code-19 : code ≡ 19 → ⊥
   walk-code-19 = rw code-is (λ e. let h = refused-code (walkCall .answer) No.Spelling .0 e in outcomes walkCall .never-19 (h .0) (h .1))
+
+  -- the last word of each record
+  pub walk-parents : Parents walkCall
+  walk-parents = parents walkCall

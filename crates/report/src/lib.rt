@@ -24,7 +24,7 @@ fn newline() {
     io::write_all(STDOUT_FILENO, b"\n");
 }
 
-// Place, depth, id, type and relation of the i-th context, if its record is there.
+// Place, depth, id, type, relation and parent of the i-th context, if its record is there.
 fn context(records: &[u64], i: usize) {
     if records.len() / RECORD <= i {
         return;
@@ -35,6 +35,7 @@ fn context(records: &[u64], i: usize) {
     spaced(records[at + 2]);
     spaced(records[at + 4]);
     spaced(records[at + 3]);
+    spaced(records[at + 11]);
     newline();
 }
 
@@ -79,7 +80,7 @@ pub fn show(file: &[u8], listing: &mut [u64], table: &mut [u64], records: &mut [
     ensures { λ r. ⌜ Leaves numberListed (now (file .entry)) (slices (now (listing .entry)) (now (table .entry)) (now (records .entry)))
         r (slices (now (listing .exit)) (now (table .exit)) (now (records .exit))) ⌝ }
 {
-    io::write_all(STDOUT_FILENO, b"place depth id type relation\n");
+    io::write_all(STDOUT_FILENO, b"place depth id type relation parent\n");
     let walked = walk::records(file, listing, table, records);
     contexts(records, listed(walked));
     end(walked);

@@ -10,9 +10,9 @@ use lib.ListN.{length}
 use Rattle.le.proofs.Laws.{number-small}
 use Rattle.layout.specs.Octets.{Octets}
 use Rattle.open.specs.Opening.{field}
-use Rattle.context.specs.Context.{extent}
-use Rattle.resume.specs.Way.{siblingPlace, NumberOf, Lies}
-use Rattle.resume.proofs.Places.{sibling-first, sibling-next, sibling-small, sibling-number}
+use Rattle.context.specs.Context.{extent, siblingPlace}
+use Rattle.resume.specs.Way.{NumberOf, Lies}
+use Rattle.context.proofs.Siblings.{sibling-first, sibling-next, sibling-small, sibling-number}
 
 -- ---- the bytes that a context takes
 

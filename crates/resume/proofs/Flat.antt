@@ -15,11 +15,12 @@ use Rattle.refusal.specs.declared.Check.{Check}
 use Rattle.refusal.specs.declared.Check.the-variants as Check
 use Rattle.refusal.specs.Check.{either, rule, first, ifPassed}
 use Rattle.open.specs.Opening.{field}
-use Rattle.context.specs.Context.{Targets, childrenPlace, childrenBytes, ctxId, extent, contextRule}
+use Rattle.context.specs.Context.{Targets, childrenPlace, childrenBytes, ctxId, extent, siblingPlace, childrenEnd, contextRule}
 use Rattle.open.specs.Kept.{ContextsKept}
 use Rattle.context.specs.Entry.{Entry, entryAt}
 use Rattle.context.specs.Sound.{Readable}
 use Rattle.context.proofs.Laws.{ends, readable}
+use Rattle.context.proofs.Siblings.{takes-some, sibling-first, sibling-next}
 use Rattle.traversal.specs.declared.Walked.{Walked}
 use Rattle.traversal.specs.declared.Walked.the-variants.{Complete, Truncated, Refused}
 use Rattle.traversal.specs.Traversal.{Marks, Outcome, on, cut, refused, listOf, Parameters, visitCheck, depthLimit, Down, visit, bind, level}
@@ -27,7 +28,7 @@ use Rattle.traversal.specs.From.{samePath, lastPath, marksFrom, limitedFrom}
 use Rattle.traversal.specs.Walk.{Slices, slices}
 use Rattle.traversal.proofs.Keeps.{snoc}
 use Rattle.traversal.proofs.Places.{last-append}
-use Rattle.traversal.proofs.Steps.{same-bind, takes-some, rest, rest-end, rest-step, level-rest, visit-refused, visit-10, visit-cut, visit-on}
+use Rattle.traversal.proofs.Steps.{same-bind, rest, rest-end, rest-step, level-rest, visit-refused, visit-10, visit-cut, visit-on}
 use Rattle.seek.specs.declared.Seek.{Seek}
 use Rattle.seek.specs.Seek.{seek, stepped, Next, Seeks}
 use Rattle.seek.proofs.Matching.{next-child, next-sibling, next-above, seeks-start, seeks-found, seeks-on}
@@ -35,11 +36,10 @@ use Rattle.visit.specs.Visit.{checksAfter10}
 use Rattle.visit.proofs.Checks.{by-table, safe}
 use Rattle.resume.specs.declared.Cursor.{Cursor}
 use Rattle.resume.specs.declared.Progress.{Progress}
-use Rattle.resume.specs.Way.{siblingPlace, WayTo, childrenEnd, endBelow, Lies, LiesBelow, cursor, backTo, onFrom}
+use Rattle.resume.specs.Way.{WayTo, endBelow, parentBelow, Lies, LiesBelow, cursor, backTo, onFrom}
 use Rattle.resume.specs.State.{Holds, countedEnd, Ended, askedWith, visitAnswer, progressMore, listingMore, RecordMore}
-use Rattle.resume.proofs.Places.{sibling-first, sibling-next}
 use Rattle.resume.proofs.Slices.{marksMore, long, recounted, one-more}
-use Rattle.resume.proofs.Frames.{Frame, frame, upsOf, parentOf, arrayStart, arrayEnd, WayStands, AllLie, Numbered, ups-length, below-end, below-lies, end-inside, leads-to, noted-above, noted-stands, noted-depth}
+use Rattle.resume.proofs.Frames.{Frame, frame, upsOf, parentOf, arrayStart, arrayEnd, WayStands, AllLie, Numbered, ups-length, below-end, below-parent, below-lies, end-inside, leads-to, noted-above, noted-stands, noted-depth}
 
 -- ---- what follows
 
@@ -373,15 +373,16 @@ module _ {file : List ℕ} {t : Targets} {path : List ℕ} {was : Slices} {at st
               let none : field file (here .p) childrenBytes ≡ 0 = omega (arith, leb-false 1 (field file (here .p) childrenBytes) l) in
               omega (arith, x .no-bytes none)
 
-      module _ (lies : Lies file (here .p)) (records : List ℕ) (put : RecordMore file (here .p) (here .up + 1) k (s .records) records) where
+      abbrev noted : List ℕ
+      noted = set (set way 0 (here .up + 1)) (here .up + 1) (here .p)
+
+      module _ (lies : Lies file (here .p)) (records : List ℕ)
+          (put : RecordMore file (here .p) (here .up + 1) (parentBelow noted (here .up)) k (s .records) records) where
         abbrev after : Progress
         after = progressMore path k sk (here .up)
 
         abbrev visited : Slices
         visited = slices (listingMore k (here .p) (s .listing)) (set (s .table) (field file (here .p) ctxId) (here .p)) records
-
-        abbrev noted : List ℕ
-        noted = set (set way 0 (here .up + 1)) (here .up + 1) (here .p)
 
         abbrev with : List Entry
         with = snoc (g .so) (entryAt file (parentOf (g .frames)) path-here (here .p))
@@ -413,9 +414,16 @@ module _ {file : List ℕ} {t : Targets} {path : List ℕ} {was : Slices} {at st
             (seeks-on path (lastPath [] (g .so)) (upsOf (g .frames)) (g .i) sk (g .next) (g .seeks (still .0))
             (ap (λ (n : ℕ). found path sk n) (sym up-here) ∙ still .1))
 
+        -- its parent is the last context that the way leads through before it
+        parent-here : parentBelow noted (here .up) ≡ parentOf (g .frames)
+        parent-here =
+            ap (parentBelow noted) (g .deep)
+            ∙ below-parent noted (g .frames) (noted-above file at way (here .up) (here .p) (g .frames) (g .deep) word (g .stands))
+
         held : Holds path was with visited (after .marks)
         held = rw (progress-marks path sk (here .up) k)
-            (one-more (g .holds) file (parentOf (g .frames)) path-here (here .p) (here .up + 1) (g .some) here-length (found path sk (here .up)) found-here records put)
+            (one-more (g .holds) file (parentOf (g .frames)) path-here (here .p) (here .up + 1) (g .some) here-length (found path sk (here .up)) found-here records
+            (rw parent-here at put))
 
         on-visit : visit-here ≡ children with
         on-visit =

@@ -11,9 +11,9 @@ use lib.Dec.{eqb}
 use lib.ListN.{length, getD, set, length-append, length-set, List·getD-append}
 use lib.Seq.{getD-set-same, getD-set-other, getD-at}
 use Rattle.open.specs.Opening.{field}
-use Rattle.context.specs.Context.{childrenPlace, extent}
+use Rattle.context.specs.Context.{childrenPlace, extent, siblingPlace, childrenEnd}
 use Rattle.traversal.proofs.Keeps.{snoc}
-use Rattle.resume.specs.Way.{siblingPlace, placesOn, WayTo, childrenEnd, endBelow, Lies, LiesBelow}
+use Rattle.resume.specs.Way.{placesOn, WayTo, endBelow, parentBelow, Lies, LiesBelow}
 use Rattle.resume.proofs.Places.{startBelow, start-snoc, places-snoc}
 
 pub record Frame : Type 0 where
@@ -72,6 +72,10 @@ pub below-end : (file : List ℕ) (stop : ℕ) (way : List ℕ) (frames : List F
     → endBelow file stop way (length frames) ≡ arrayEnd file stop frames
 below-end file stop way [] s = refl
 below-end file stop way (x ∷ frames) s = ap (childrenEnd file) (s .0)
+
+pub below-parent : (way : List ℕ) (frames : List Frame) → WayStands way frames → parentBelow way (length frames) ≡ parentOf frames
+below-parent way [] s = refl
+below-parent way (x ∷ frames) s = s .0
 
 pub below-lies : (file way : List ℕ) (frames : List Frame) → WayStands way frames → AllLie file frames → LiesBelow file way (length frames)
 below-lies file way [] s a = tt

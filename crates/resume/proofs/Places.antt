@@ -1,46 +1,14 @@
--- Places by numbers: siblings rise, so a place has one number; and the places on a path, one level after the other.
-use Prim.Native.Nat.{ℕ, zero, suc, _+_, _-_, _≤_, _<_}
+-- The places on a path, one level after the other.
+use Prim.Native.Nat.{ℕ, zero, suc, _<_}
 use mathlib.Core.List.{List, [], _∷_}
 use mathlib.Core.Path.{_≡_, refl, ap}
-use native.Mathlib.Decide.{decLe}
 use native.Mathlib.Omega.{arith}
 use native.Mathlib.Nat.{not-suc-le-zero}
 use lib.ListN.{length, getD, take}
 use Rattle.open.specs.Opening.{field}
-use Rattle.context.specs.Context.{childrenPlace, extent}
+use Rattle.context.specs.Context.{childrenPlace, siblingPlace}
 use Rattle.traversal.proofs.Keeps.{snoc}
-use Rattle.traversal.proofs.Steps.{takes-some}
-use Rattle.resume.specs.Way.{siblingPlace, placesOn}
-
--- ---- siblings
-
-module _ (file : List ℕ) (start : ℕ) where
-  pub sibling-first : siblingPlace file start 0 ≡ start
-  unfolding siblingPlace
-  sibling-first = refl
-
-  pub sibling-next : (i : ℕ) → siblingPlace file start (suc i) ≡ siblingPlace file start i + extent file (siblingPlace file start i)
-  unfolding siblingPlace
-  sibling-next i = refl
-
-  rises : (i k : ℕ) → siblingPlace file start i + k ≤ siblingPlace file start (i + k)
-  rises i zero = let e : i + 0 ≡ i = omega arith in rw e (omega arith)
-  rises i (suc k) =
-      let e : i + suc k ≡ suc (i + k) = omega arith in
-      rw e (omega (arith, rises i k, sibling-next (i + k), takes-some file (siblingPlace file start (i + k))))
-
-  -- no number is greater than its place
-  pub sibling-small : (i : ℕ) → i ≤ siblingPlace file start i
-  sibling-small i = let e : 0 + i ≡ i = omega arith in omega (arith, rises 0 i, ap (siblingPlace file start) e)
-
-  -- a place has one number
-  pub sibling-number : (i j : ℕ) → siblingPlace file start i ≤ siblingPlace file start j → i ≤ j
-  sibling-number i j h = elim (decLe i j) [
-    | yes e ↦ e
-    | no e ↦ absurd (let s : j + (i - j) ≡ i = omega arith in omega (arith, rises j (i - j), ap (siblingPlace file start) s))
-  ]
-
--- ---- on a path
+use Rattle.resume.specs.Way.{placesOn}
 
 -- where the array starts that lies below a path
 abbrev pub startBelow : List ℕ → (start : ℕ) (path : List ℕ) → ℕ

@@ -112,13 +112,13 @@ module _ (path : List ℕ) (was : Slices) (l : List Entry) (e : Entry) where
 -- that at p
 pub one-more : {path : List ℕ} {was : Slices} {l : List Entry} {s : Slices} {k : ℕ} → Holds path was l s k → (file : List ℕ) (parent : ℕ)
     (here : List ℕ) (p depth : ℕ) → 0 < p → length here ≡ depth → (found : Bool) → (k ≡ 0 → found ≡ samePath path here)
-    → (records : List ℕ) → RecordMore file p depth k (s .records) records
+    → (records : List ℕ) → RecordMore file p depth parent k (s .records) records
     → Holds path was (snoc l (entryAt file parent here p))
     (slices (listingMore k p (s .listing)) (set (s .table) (field file p ctxId) p) records) (marksMore k found)
 unfolding entryAt
 one-more {path} {was} {l} {s} {k} h file parent here p depth y d found f records r =
     more-by path was l (entryAt file parent here p) s k h y found f records (go k r)
   where
-    go : (j : ℕ) → RecordMore file p depth j (s .records) records → RecordBy (entryAt file parent here p) j (s .records) records
+    go : (j : ℕ) → RecordMore file p depth parent j (s .records) records → RecordBy (entryAt file parent here p) j (s .records) records
     go zero q = q
-    go (suc n) q = q parent here d
+    go (suc n) q = q here d

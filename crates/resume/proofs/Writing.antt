@@ -15,8 +15,8 @@ use Rattle.buffer.proofs.Laws.{over-none, over-append, length-over}
 use Rattle.mark.specs.Mark.{deepest, numberFields, headFields, encode, Encodable}
 use Rattle.mark.proofs.Bytes.{encoded-length}
 use Rattle.open.specs.Opening.{field}
-use Rattle.context.specs.Context.{childrenPlace}
-use Rattle.resume.specs.Way.{siblingPlace, WayTo, NumberOf, Leads, MarkPut}
+use Rattle.context.specs.Context.{childrenPlace, siblingPlace}
+use Rattle.resume.specs.Way.{WayTo, NumberOf, Leads, MarkPut}
 use Rattle.resume.proofs.Places.{startBelow, place-at, start-next}
 
 -- ---- bytes

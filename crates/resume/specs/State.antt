@@ -80,9 +80,9 @@ unfoldable pub listingMore : (k p : ℕ) (was : List ℕ) → List ℕ
 listingMore zero p was = was
 listingMore (suc n) p was = set was n p
 
-abbrev pub RecordMore : List ℕ → (p depth k : ℕ) → (was now : List ℕ) → Type 0
-RecordMore file p depth zero was now = now ≡ was
-RecordMore file p depth (suc n) was now = RecordPut file p depth n was now
+abbrev pub RecordMore : List ℕ → (p depth parent k : ℕ) → (was now : List ℕ) → Type 0
+RecordMore file p depth parent zero was now = now ≡ was
+RecordMore file p depth parent (suc n) was now = RecordPut file p depth parent n was now
 
 -- ---- the answer by the marks passed
 

@@ -8,13 +8,8 @@ use Rattle.refusal.specs.Check.{either}
 use Rattle.buffer.specs.Over.{over}
 use Rattle.mark.specs.Mark.{encode, Encodable}
 use Rattle.open.specs.Opening.{field}
-use Rattle.context.specs.Context.{childrenPlace, childrenBytes, extent}
+use Rattle.context.specs.Context.{childrenPlace, childrenBytes, extent, siblingPlace, childrenEnd}
 use Rattle.resume.specs.declared.Cursor.{Cursor}
-
--- the place of sibling i of an array that starts at a place
-unfoldable pub siblingPlace : List ℕ → (start i : ℕ) → ℕ
-siblingPlace file start zero = start
-siblingPlace file start (suc i) = siblingPlace file start i + extent file (siblingPlace file start i)
 
 -- the places of the contexts on a path whose first array starts at a place
 unfoldable pub placesOn : List ℕ → (start : ℕ) (path : List ℕ) → List ℕ
@@ -42,14 +37,15 @@ MarkPut file start way was now = (path : List ℕ) → WayTo file start path way
 
 -- ---- the arrays on the way
 
--- where the children of the context at q end
-abbrev pub childrenEnd : List ℕ → (q : ℕ) → ℕ
-childrenEnd file q = field file q childrenPlace + field file q childrenBytes
-
 -- where the array ends that lies below `up` contexts of the way; below none it is that of the roots, which ends at `stop`
 abbrev pub endBelow : List ℕ → (stop : ℕ) (way : List ℕ) (up : ℕ) → ℕ
 endBelow file stop way zero = stop
 endBelow file stop way (suc d) = childrenEnd file (getD way (suc d) 0)
+
+-- the place of the context whose children stand there; the roots are no context's
+abbrev pub parentBelow : (way : List ℕ) (up : ℕ) → ℕ
+parentBelow way zero = 0
+parentBelow way (suc d) = getD way (suc d) 0
 
 -- the context at q lies in the file, and so do its children
 pub record Lies (file : List ℕ) (q : ℕ) : Type 0 where

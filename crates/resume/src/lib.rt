@@ -15,7 +15,7 @@ ghost use Rattle.context.specs.Context.{ctxId};
 ghost use Rattle.context.specs.Sound.{targetsIn, Readable};
 ghost use Rattle.mark.specs.Mark.{markRoom, decode, isNamed, pathIn};
 ghost use Rattle.traversal.specs.Walk.{slices, slicesWithMark, marksWith, LeavesFrom, Leaves, itself};
-ghost use Rattle.resume.specs.Way.{endBelow, backTo, onFrom, Lies, LiesBelow, NumberOf, Leads, MarkPut};
+ghost use Rattle.resume.specs.Way.{endBelow, parentBelow, backTo, onFrom, Lies, LiesBelow, NumberOf, Leads, MarkPut};
 ghost use Rattle.resume.specs.State.{RootsDone, AllDone, visitAnswer, progressMore, listingMore, RecordMore, marksIn, answerOf};
 use context::CTX_ID;
 use context::TARGETS;
@@ -81,10 +81,19 @@ struct Progress {
     seek: Seek,
 }
 
+// The parent of the contexts that lie below `up` contexts of the way: the last of these; the roots have none.
+fn parent_of(way: &[u64; WAY], up: usize) -> u64
+    requires { ⌜ up < 201 ⌝ }
+    ensures { λ r. ⌜ r ≡ parentBelow (now (way .entry)) up ⌝ }
+{
+    if up == 0 { 0 } else { way[up] }
+}
+
 // The context there is listed if the mark is passed, and else it is passed over.
 fn list_or_pass(
     file: &[u8],
     mark: &[u8],
+    way: &[u64; WAY],
     here: Cursor,
     listing: &mut [u64],
     records: &mut [u64],
@@ -96,7 +105,7 @@ fn list_or_pass(
     requires { ⌜ («so_far» .marks ≡ 0 → «so_far» .seek .matched < length (pathIn (decode (now mark)))) ⌝ }
     ensures { λ r. ⌜ r ≡ progressMore (pathIn (decode (now (mark .entry)))) («so_far» .marks) («so_far» .seek) (here .up) ⌝ }
     ensures { λ _. ⌜ now (listing .exit) ≡ listingMore («so_far» .marks) (here .p) (now (listing .entry)) ⌝ }
-    ensures { λ _. ⌜ RecordMore (now (file .entry)) (here .p) (here .up + 1) («so_far» .marks) (now (records .entry)) (now (records .exit)) ⌝ }
+    ensures { λ _. ⌜ RecordMore (now (file .entry)) (here .p) (here .up + 1) (parentBelow (now (way .entry)) (here .up)) («so_far» .marks) (now (records .entry)) (now (records .exit)) ⌝ }
 {
     let k = so_far.marks;
     let seek = so_far.seek;
@@ -109,7 +118,9 @@ fn list_or_pass(
         };
     }
     listing[k - 1] = here.p as u64;
-    visit::put_record(file, here.p, here.up as u64 + 1, records, k - 1);
+    let depth = here.up as u64 + 1;
+    let parent = parent_of(way, here.up);
+    visit::put_record(file, here.p, depth, parent, records, k - 1);
     Progress { marks: k + 1, seek }
 }
 
@@ -207,7 +218,7 @@ fn contexts(
                 return goes;
             };
             store_visit(file, here, table, way);
-            so_far = list_or_pass(file, mark, here, listing, records, so_far);
+            so_far = list_or_pass(file, mark, way, here, listing, records, so_far);
             here = on_from(file, here);
         } else {
             if here.up == 0 {

@@ -1,8 +1,8 @@
 -- Demand 3. A walk is the trail from just after its mark, truncated to the listing's words; with more room that trail only goes on.
-use Prim.Native.Nat.{ℕ, _+_, _≤_, _<_}
+use Prim.Native.Nat.{ℕ, _+_, _*_, _≤_, _<_, min}
 use mathlib.Core.Bool.{Bool, true, false, true≢false}
 use mathlib.Core.List.{List, [], _++_, map, map-append}
-use mathlib.Core.Path.{_≡_, refl, sym, ap, _∙_, subst}
+use mathlib.Core.Path.{_≡_, refl, sym, ap, ap₂, _∙_, subst}
 use native.Mathlib.Nat.{min-comm}
 use native.Mathlib.Omega.{arith}
 use borrow.Author.Tests.{leb-true, leb-false}
@@ -14,17 +14,18 @@ use Rattle.refusal.specs.declared.Check.{Check}
 use Rattle.refusal.specs.declared.Check.the-variants as Check
 use Rattle.refusal.specs.Check.{either, ifPassed}
 use Rattle.buffer.proofs.Laws.{over-eq}
-use Rattle.context.specs.Entry.{Entry}
+use Rattle.context.specs.Entry.{Entry, entryWords, wordsEach}
 use Rattle.traversal.specs.declared.Walked.{Walked}
 use Rattle.traversal.specs.declared.Walked.the-variants.{Complete, Truncated, Refused}
 use Rattle.traversal.specs.Traversal.{Marks, Asked, ask, Outcome, on, cut, refused, listOf, traversal}
 use Rattle.traversal.specs.From.{isPassed, afterMark, upToMark, withList, unpassed, fromMark}
-use Rattle.traversal.specs.Walk.{truncate, walkCheck, givenPath, trailFrom, walkOf, markPassed, reached, walkedOf, numberListed, placeOf, listingWith, tableWith, tableAfter, Slices, LeavesFrom, itself}
-use Rattle.traversal.specs.Demand3.{Call, asked, listedNumber, listedWords, trail, listed, Untouched, OneWalk, Final, Begins, TwoWalks, AskedAlike, Demand3}
-use Rattle.traversal.proofs.Begins.{take-own}
+use Rattle.traversal.specs.Walk.{truncate, walkCheck, givenPath, trailFrom, walkOf, markPassed, reached, walkedOf, numberListed, placeOf, listingWith, tableWith, wordsOf, recordsWith, tableAfter, Slices, LeavesFrom, itself}
+use Rattle.traversal.specs.Demand3.{Call, asked, listedNumber, listedWords, trail, listed, recordRoom, recordNumber, recordWords, HandsOut, Untouched, OneWalk, Final, Begins, TwoWalks, AskedAlike, Demand3}
+use Rattle.traversal.proofs.Begins.{begins-trans, begins-take, take-own}
 use Rattle.traversal.proofs.Cut.{truncate-short, truncate-long, list-truncate}
 use Rattle.traversal.proofs.Grows.{isCut, never-cut}
 use Rattle.traversal.proofs.Untouched.{refused-untouched}
+use Rattle.traversal.proofs.Records.{words-append, begins-taken, both-begin, stands-at, records-first, records-behind, record-at}
 use Rattle.traversal.proofs.Trail.{trail-from-same}
 use Rattle.traversal.proofs.MoreRoom.{entries-begin, entries-same}
 use Rattle.traversal.proofs.Table.{length-table}
@@ -127,6 +128,36 @@ module _ {file : List ℕ} (c : Call file) where
       ap (drop (listedNumber c)) written ∙ drop-at places (drop (length places) (c .was .listing)) (listedNumber c) many
       ∙ ap (λ (n : ℕ). drop n (c .was .listing)) many
 
+  -- ---- its records
+
+  pub listed-length : length (listed c) ≡ listedNumber c
+  listed-length = ap length (sym same-listed) ∙ sym counted
+
+  records-put : c .now .records ≡ recordsWith (listed c) (c .was .records)
+  records-put = c .promised .recorded ∙ ap (λ (l : List Entry). recordsWith l (c .was .records)) same-listed
+
+  pub record-words : recordWords c ≡ take (recordRoom c * wordsEach) (wordsOf (listed c))
+  record-words =
+      ap₂ (λ (n : ℕ) (w : List ℕ). take (min n (recordRoom c) * wordsEach) w) (sym listed-length) records-put
+      ∙ records-first (c .was .records) (listed c)
+
+  behind : drop (recordNumber c * wordsEach) (c .now .records) ≡ drop (recordNumber c * wordsEach) (c .was .records)
+  behind =
+      ap₂ (λ (n : ℕ) (w : List ℕ). drop (min n (recordRoom c) * wordsEach) w) (sym listed-length) records-put
+      ∙ records-behind (c .was .records) (listed c)
+      ∙ ap (λ (n : ℕ). drop (min n (recordRoom c) * wordsEach) (c .was .records)) listed-length
+
+  each : (i : ℕ) → i < recordNumber c → (e : Entry) × HandsOut c i e
+  each i h =
+      let at = stands-at i (listed c) (omega (arith, listed-length)) in
+      (at .0, record { before = at .1; after = at .2; lists = at .3; number = at .4; room = omega arith })
+
+  at-number : (i : ℕ) (e : Entry) → HandsOut c i e → take wordsEach (drop (i * wordsEach) (c .now .records)) ≡ entryWords e
+  at-number i e h =
+      ap₂ (λ (n : ℕ) (w : List ℕ). take wordsEach (drop (n * wordsEach) w)) (h .number)
+      (records-put ∙ ap (λ (l : List Entry). recordsWith l (c .was .records)) (h .lists))
+      ∙ record-at (c .was .records) (h .before) e (h .after) (let r = h .room in omega (arith, h .number))
+
   short-end : length (trail c) ≤ room → c .answer ≡ walkedOf (trailFrom a)
   short-end h = c .promised .answers ∙ ap walkedOf (all-listed a h)
 
@@ -203,6 +234,9 @@ module _ {file : List ℕ} (c : Call file) where
     slots = same-slots;
     up-to = those-reached;
     none = none-reached;
+    each-record = each;
+    record-is = at-number;
+    beyond-records = behind;
     not-begun = nothing-changed;
   }
 
@@ -233,11 +267,25 @@ module _ {file : List ℕ} (old new : Call file) (alike : AskedAlike old new) (h
   places-of : (c : Call file) → listedWords c ≡ map placeOf (listOf (walkOf (asked c)))
   places-of c = listed-places c ∙ ap (map placeOf) (sym (same-listed c))
 
+  words-begin : Begins (wordsOf (listed old)) (wordsOf (listed new))
+  words-begin = rw (← same-listed old, ← same-listed new) (wordsOf (begin .0), ap wordsOf (begin .1) ∙ words-append (listOf (walkOf (asked old))) (begin .0))
+
   of-two : TwoWalks old new
   of-two = record {
     begins = rw (places-of old, places-of new) (begins-map placeOf (listOf (walkOf (asked old))) (listOf (walkOf (asked new))) begin);
     same-list = λ f. places-of new ∙ ap (λ (o : Outcome). map placeOf (listOf o)) (same f) ∙ sym (places-of old);
     same-end = λ f. new .promised .answers ∙ ap walkedOf (same f) ∙ sym (old .promised .answers);
+    records-begin = λ r. rw (record-words old, record-words new)
+        (begins-taken (recordRoom old * wordsEach) (recordRoom new * wordsEach) (wordsOf (listed old)) (wordsOf (listed new)) words-begin (omega arith));
+    same-records = λ f e.
+        record-words new
+        ∙ ap₂ (λ (n : ℕ) (l : List Entry). take (n * wordsEach) (wordsOf l)) (sym e) (sym (same-listed new) ∙ ap listOf (same f) ∙ same-listed old)
+        ∙ sym (record-words old);
+    records-agree = rw (record-words old, record-words new)
+        (both-begin (take (recordRoom old * wordsEach) (wordsOf (listed old))) (take (recordRoom new * wordsEach) (wordsOf (listed new))) (wordsOf (listed new))
+        (begins-trans (take (recordRoom old * wordsEach) (wordsOf (listed old))) (wordsOf (listed old)) (wordsOf (listed new))
+        (begins-take (recordRoom old * wordsEach) (wordsOf (listed old))) words-begin)
+        (begins-take (recordRoom new * wordsEach) (wordsOf (listed new))));
   }
 
 one-trail-of : {file : List ℕ} (c d : Call file) → AskedAlike c d → length (c .was .table) ≡ length (d .was .table)

@@ -21,21 +21,25 @@ use Rattle.traversal.proofs.Keeps.{snoc, somewhere, keeps-traversal}
 use Rattle.traversal.proofs.Table.{idOf}
 
 -- what a visit that passes has passed
-pub record Fits (E : Parameters) (path : List ℕ) (p : ℕ) (l : List Entry) : Type 0 where
+pub record Fits (E : Parameters) (path : List ℕ) (p stop : ℕ) (l : List Entry) : Type 0 where
+  pub ends : contextRule (E .asked .file) p stop ≡ true
+  pub children : childrenRule (E .targets) (E .asked .file) p ≡ true
   pub deep : length path ≤ depthLimit
   pub slot : field (E .asked .file) p ctxId < E .asked .lent .slots
   pub fresh : seen (field (E .asked .file) p ctxId) l ≡ false
 
-pub passed-fits : (E : Parameters) (path : List ℕ) (p stop : ℕ) (l : List Entry) → visitCheck E path p stop l ≡ Passed → Fits E path p l
+pub passed-fits : (E : Parameters) (path : List ℕ) (p stop : ℕ) (l : List Entry) → visitCheck E path p stop l ≡ Passed → Fits E path p stop l
 unfolding visitCheck slotCheck
 passed-fits E path p stop l h =
     let id = field (E .asked .file) p ctxId in
-    let links = first-passes (rule (contextRule (E .asked .file) p stop) No.Context) _ .0 h .1 in
-    let children = first-passes (rule (linksRule (E .targets) (E .asked .file) p) No.Link) _ .0 links .1 in
-    let slots = first-passes (rule (childrenRule (E .targets) (E .asked .file) p) No.Array) _ .0 children .1 in
-    let deep = first-passes (rule (leb (length path) depthLimit) No.Deep) _ .0 slots in
+    let links = first-passes (rule (contextRule (E .asked .file) p stop) No.Context) _ .0 h in
+    let children = first-passes (rule (linksRule (E .targets) (E .asked .file) p) No.Link) _ .0 (links .1) .1 in
+    let slots = first-passes (rule (childrenRule (E .targets) (E .asked .file) p) No.Array) _ .0 children in
+    let deep = first-passes (rule (leb (length path) depthLimit) No.Deep) _ .0 (slots .1) in
     let slot = first-passes (rule (ltb id (E .asked .lent .slots)) No.Slot) _ .0 (deep .1) in
     record {
+      ends = rule-passes (contextRule (E .asked .file) p stop) No.Context .0 (links .0);
+      children = rule-passes (childrenRule (E .targets) (E .asked .file) p) No.Array .0 (slots .0);
       deep = leb-true _ _ (rule-passes (leb (length path) depthLimit) No.Deep .0 (deep .0));
       slot = ltb-true _ _ (rule-passes (ltb id (E .asked .lent .slots)) No.Slot .0 (slot .0));
       fresh = not-true _ (rule-passes (not (seen id l)) No.Twice .0 (slot .1));

@@ -1,11 +1,12 @@
 -- Parts joined equal one walk. A mark that was handed out is read back as the path that it names, since a traversal's paths can be marks;
 -- so two parts join as their outcomes do. For more, the rest are one walk from the second part's mark on, by induction.
-use Prim.Native.Nat.{ℕ, _+_}
+use Prim.Native.Nat.{ℕ, _+_, _*_, _≤_}
 use mathlib.Core.Bool.{Bool, true, false}
-use mathlib.Core.List.{List, [], _∷_, _++_, map, map-append}
+use mathlib.Core.List.{List, [], _∷_, _++_, map, map-append, append-assoc, append-nil}
 use mathlib.Core.Path.{_≡_, refl, sym, ap, ap₂, _∙_, subst}
 use native.Mathlib.Omega.{arith}
-use lib.ListN.{length, take, replicate, length-append, length-replicate}
+use lib.ListN.{length, take, drop, replicate, length-append, length-replicate}
+use lib.Seq.{take-all}
 use Rattle.refusal.specs.declared.Refusal.the-variants as No
 use Rattle.refusal.specs.declared.Check.{Check}
 use Rattle.refusal.specs.declared.Check.the-variants as Check
@@ -16,21 +17,22 @@ use Rattle.open.specs.Format.{meta}
 use Rattle.open.specs.Opening.{opening}
 use Rattle.mark.specs.Mark.{encode, Decoded, named, decode, isNamed, pathIn, Encodable}
 use Rattle.mark.proofs.Bytes.{decode-encode, decoded-encodable, mark-read}
-use Rattle.context.specs.Entry.{Entry}
+use Rattle.context.specs.Entry.{Entry, wordsEach}
 use Rattle.traversal.specs.declared.Walked.{Walked}
 use Rattle.traversal.specs.declared.Walked.the-variants.{Complete, Truncated, Refused}
 use Rattle.traversal.specs.Traversal.{Marks, Asked, Outcome, on, cut, refused, listOf, traversal}
 use Rattle.traversal.specs.From.{isPassed, upToMark, withList, fromMark, lastPath}
 use Rattle.traversal.specs.Walk.{truncate, walkCheck, givenPath, trailFrom, walkOf, markPassed, newPath, reached, walkedOf, numberListed}
-use Rattle.traversal.specs.Walk.{placeOf, listingWith, tableWith, recordsWith, tableAfter, markAfter, Slices, slicesWithMark, askWith}
-use Rattle.traversal.specs.Demand3.{Call, asked, listedNumber, listedWords, listed}
-use Rattle.traversal.specs.Joined.{Roomy, Begun, handed, Follows, Parts, lastPart, joinedRoom, joinedNumber, withNumber, AsOne, Joined, GoingOn}
+use Rattle.traversal.specs.Walk.{placeOf, listingWith, tableWith, wordsOf, recordsWith, tableAfter, markAfter, Slices, slicesWithMark, askWith}
+use Rattle.traversal.specs.Demand3.{Call, asked, listedNumber, listedWords, listed, recordRoom, recordWords, Agree}
+use Rattle.traversal.specs.Joined.{Roomy, Begun, handed, Follows, Parts, lastPart, joinedRoom, joinedNumber, joinedEntries, joinedRecords, AllRecorded, RecordsFrom, withNumber, AsOne, Joined, GoingOn}
 use Rattle.traversal.proofs.From.{list-with, list-unpassed, from-unpassed}
 use Rattle.traversal.proofs.Trail.{trail-same}
 use Rattle.traversal.proofs.Preorder.{paths-distinct}
+use Rattle.traversal.proofs.Records.{words-append, length-words, left-agrees}
 use Rattle.traversal.proofs.Join.{walkFrom, pathAfter, new-passed, join-outcome, join-path, walk-from, path-after, new-path-all}
 use Rattle.traversal.proofs.Small.{contexts-encodable}
-use Rattle.traversal.proofs.Demand3.{counted, same-listed, filled, demand3}
+use Rattle.traversal.proofs.Demand3.{counted, same-listed, listed-length, record-words, filled, demand3}
 use Rattle.traversal.proofs.Rules.{roomy-check, begun-passes, begun-path, check-told, mark-passed, passed-check}
 use Rattle.traversal.proofs.Outcomes.{handed-out, new-shallow, outcomes}
 
@@ -56,6 +58,44 @@ unfolding walkedOf
 walked-with (on m) l = refl
 walked-with (cut m) l = refl
 walked-with (refused r m) l = refl
+
+-- ---- records, by the contexts listed
+
+module _ {file : List ℕ} where
+  all-words : (c : Call file) → listedNumber c ≤ recordRoom c → recordWords c ≡ wordsOf (listed c)
+  all-words c h = record-words c ∙ take-all (recordRoom c * wordsEach) (wordsOf (listed c)) (omega (arith, length-words (listed c), listed-length c))
+
+  joined-words : (c : Call file) (ds : List (Call file)) → AllRecorded c ds → joinedRecords c ds ≡ wordsOf (joinedEntries c ds)
+  joined-words c [] h = all-words c h
+  joined-words c (d ∷ ds) h = ap₂ _++_ (all-words c (h .0)) (joined-words d ds (h .1)) ∙ sym (words-append (listed c) (joinedEntries d ds))
+
+  joined-records : (c : Call file) (ds : List (Call file)) (whole : Call file) → listed whole ≡ joinedEntries c ds → AllRecorded c ds
+      → recordWords whole ≡ take (recordRoom whole * wordsEach) (joinedRecords c ds)
+  joined-records c ds whole e h = record-words whole ∙ ap (take (recordRoom whole * wordsEach)) (ap wordsOf e ∙ sym (joined-words c ds h))
+
+  -- a part's, where the one walk lists some contexts before it and some behind it
+  part-records : (whole c : Call file) (before after : List Entry) (n : ℕ) → listed whole ≡ before ++ (listed c ++ after) → length before ≡ n
+      → Agree (drop (n * wordsEach) (recordWords whole)) (recordWords c)
+  part-records whole c before after n e k =
+      rw (
+        record-words whole,
+        record-words c,
+        e,
+        words-append before (listed c ++ after),
+        words-append (listed c) after,
+      )
+      (left-agrees (n * wordsEach) (recordRoom whole * wordsEach) (recordRoom c * wordsEach) (wordsOf before) (wordsOf (listed c)) (wordsOf after)
+      (length-words before ∙ ap (λ (m : ℕ). m * wordsEach) k))
+
+  records-from : (whole : Call file) (n : ℕ) (c : Call file) (ds : List (Call file)) (before : List Entry) → length before ≡ n
+      → listed whole ≡ before ++ joinedEntries c ds → RecordsFrom whole n c ds
+  records-from whole n c [] before k e =
+      part-records whole c before [] n (e ∙ ap (λ (l : List Entry). before ++ l) (sym (append-nil (listed c)))) k
+  records-from whole n c (d ∷ ds) before k e = (
+    part-records whole c before (joinedEntries d ds) n e k,
+    records-from whole (n + listedNumber c) d ds (before ++ listed c) (length-append before (listed c) ∙ ap₂ _+_ k (listed-length c))
+        (e ∙ sym (append-assoc before (listed c) (joinedEntries d ds))),
+  )
 
 -- ---- of one call
 
@@ -141,6 +181,8 @@ module _ {file : List ℕ} (c d : Call file) (given : decode (d .marks .given) �
         record {
           lists = words-of d ∙ ap (map placeOf) entries ∙ sym (words-of c);
           entries = entries;
+          records = joined-records c [] d entries;
+          records-of-each = records-from d 0 c [] [] refl entries;
           ends = d .promised .answers ∙ ap walkedOf alike-walk ∙ sym (c .promised .answers) ∙ sym (own-number (c .answer));
           table = λ check. filled d check ∙ ap₂ tableWith alike-reached slots ∙ sym (filled c (sym alike-check ∙ check));
           mark = λ e f passed. handed-new d e roomy-d passed ∙ ap encode alike-new ∙ sym (handed-new c f roomy-c (sym alike-passed ∙ passed));
@@ -257,6 +299,8 @@ module _ {file : List ℕ} (octets : Octets file) (c d : Call file) (can : Encod
           lists = words-of whole ∙ ap (map placeOf) entries ∙ map-append placeOf (listed c) (listed d)
               ∙ ap₂ _++_ (sym (words-of c)) (sym (words-of d));
           entries = entries;
+          records = joined-records c (d ∷ []) whole entries;
+          records-of-each = records-from whole 0 c (d ∷ []) [] refl entries;
           ends = whole .promised .answers ∙ ap walkedOf one-walk ∙ walked-with (walkOf (asked d)) _
               ∙ ap₂ withNumber (sym (d .promised .answers)) number;
           table = λ check. filled whole check ∙ ap₂ tableWith one-reached (slots ∙ sym (f .table-as-long)) ∙ sym (filled d check-d);
@@ -299,9 +343,12 @@ module _ {file : List ℕ} (octets : Octets file) where
       let passed = next-passed octets c rest can follows whole (one .same-mark) rooms (one .same-table) (one .whole-roomy) (one .whole-roomy) in
       let number : listedNumber rest ≡ joinedNumber d ds =
       ap numberListed (later .ends) ∙ number-with (lastPart d ds .answer) (joinedNumber d ds) in
+      let entries : listed whole ≡ joinedEntries c (d ∷ ds) = both .entries ∙ ap (λ (l : List Entry). listed c ++ l) (later .entries) in
       record {
         lists = both .lists ∙ ap (λ (l : List ℕ). listedWords c ++ l) (later .lists);
-        entries = both .entries ∙ ap (λ (l : List Entry). listed c ++ l) (later .entries);
+        entries = entries;
+        records = joined-records c (d ∷ ds) whole entries;
+        records-of-each = records-from whole 0 c (d ∷ ds) [] refl entries;
         ends = both .ends ∙ ap₂ (λ (w : Walked) (k : ℕ). withNumber w (listedNumber c + k)) (later .ends) number
             ∙ with-number (lastPart d ds .answer) (joinedNumber d ds) (listedNumber c + joinedNumber d ds);
         table = λ h. both .table h ∙ later .table check;

@@ -7,13 +7,16 @@ pub mod Grows
 pub mod Alike
 pub mod Cut
 pub mod Untouched
+pub mod Records
 pub mod Wider
 pub mod Trail
 pub mod MoreRoom
 pub mod Table
 pub mod Ids
+pub mod Lineage
 pub mod Filled
 pub mod Preorder
+pub mod Children
 pub mod Places
 pub mod Join
 pub mod Rules
@@ -24,3 +27,4 @@ pub mod Visited
 pub mod Small
 pub mod Outcomes
 pub mod Joined
+pub mod Parents

@@ -13,11 +13,8 @@ use Rattle.refusal.specs.Check.{rule, first}
 use Rattle.open.specs.Opening.{field}
 use Rattle.context.specs.Context.{childrenPlace, childrenBytes, extent, contextRule}
 use Rattle.context.specs.Entry.{Entry, entryAt}
+use Rattle.context.proofs.Siblings.{takes-some}
 use Rattle.traversal.specs.Traversal.{Outcome, on, cut, refused, Parameters, visitCheck, enter, Down, visit, bind, turn, siblings, level}
-
-pub takes-some : (file : List ℕ) (p : ℕ) → 0 < extent file p
-unfolding extent
-takes-some file p = omega arith
 
 pub same-bind : (o : Outcome) (K K' : List Entry → Outcome) → ((l : List Entry) → K l ≡ K' l) → bind o K ≡ bind o K'
 unfolding bind

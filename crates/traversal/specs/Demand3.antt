@@ -1,8 +1,9 @@
 -- Demand 3, "one claim about any two such walks": of any one walk, and of any two of the same bytes. "Demand 3 then reads for each mark,
--- over the trail from just after it": `trailFrom`, which for no mark is the trail.
-use Prim.Native.Nat.{ℕ, _≤_, _<_, min}
+-- over the trail from just after it": `trailFrom`, which for no mark is the trail. By request 2026-07 it reads over records too, as they are
+-- handed out: as far as there is room for whole ones.
+use Prim.Native.Nat.{ℕ, _*_, _/_, _≤_, _<_, min}
 use mathlib.Core.Bool.{true, false}
-use mathlib.Core.List.{List, [], _++_, map}
+use mathlib.Core.List.{List, [], _∷_, _++_, map}
 use mathlib.Core.Logic.{_↔_}
 use mathlib.Core.Path.{_≡_, refl}
 use lib.ListN.{length, getD, take, drop}
@@ -11,7 +12,7 @@ use Rattle.refusal.specs.declared.Refusal.the-variants as No
 use Rattle.refusal.specs.declared.Check.the-variants as Check
 use Rattle.seq.specs.Lists.{In}
 use Rattle.mark.specs.Mark.{decode}
-use Rattle.context.specs.Entry.{Entry}
+use Rattle.context.specs.Entry.{Entry, entryWords, wordsEach}
 use Rattle.traversal.specs.declared.Walked.{Walked}
 use Rattle.traversal.specs.declared.Walked.the-variants.{Complete, Truncated, Refused}
 use Rattle.traversal.specs.Traversal.{Marks, Asked, listOf, traversal}
@@ -56,6 +57,24 @@ module _ {file : List ℕ} (c : Call file) where
   abbrev pub listed : List Entry
   listed = take listedNumber trail
 
+  -- the records: for how many there is room, how many are handed out, and their words, from the start
+  abbrev pub recordRoom : ℕ
+  recordRoom = length (c .was .records) / wordsEach
+
+  abbrev pub recordNumber : ℕ
+  recordNumber = min listedNumber recordRoom
+
+  abbrev pub recordWords : List ℕ
+  recordWords = take (recordNumber * wordsEach) (c .now .records)
+
+  -- record i is handed out, and is that of e
+  pub record HandsOut (i : ℕ) (e : Entry) : Type 0 where
+    pub before : List Entry
+    pub after : List Entry
+    pub lists : listed ≡ before ++ (e ∷ after)
+    pub number : i ≡ length before
+    pub room : i < recordRoom
+
   -- refused, and nothing written
   abbrev pub Untouched : Refusal → Type 0
   Untouched r =
@@ -83,6 +102,10 @@ pub record OneWalk {file : List ℕ} (c : Call file) : Type 0 where
   -- those passed over, up to the mark given, and those listed; none where the mark was not passed
   pub up-to : markPassed (asked c) ≡ true → reached (asked c) ≡ upToMark (givenPath (asked c)) (listOf (traversal (asked c))) ++ listed c
   pub none : walkCheck (asked c) ≡ Check.Passed → markPassed (asked c) ≡ false → reached (asked c) ≡ []
+  -- "Every context record handed out by a walk": those of the first contexts listed, as many as there is room for whole, word for word
+  pub each-record : (i : ℕ) → i < recordNumber c → (e : Entry) × HandsOut c i e
+  pub record-is : (i : ℕ) (e : Entry) → HandsOut c i e → take wordsEach (drop (i * wordsEach) (c .now .records)) ≡ entryWords e
+  pub beyond-records : drop (recordNumber c * wordsEach) (c .now .records) ≡ drop (recordNumber c * wordsEach) (c .was .records)
   -- "If opening refuses, 0 are listed and neither slice changes." So it is with the mark rules that stand before the trail.
   pub not-begun : (r : Refusal) → walkCheck (asked c) ≡ Check.Refused r → Untouched c r
 
@@ -102,12 +125,20 @@ Final (Refused r n) = WantsRoom r → ⊥
 abbrev pub Begins : {A : Type 0} → List A → List A → Type 0
 Begins {A = A} a b = (c : List A) × (b ≡ a ++ c)
 
+-- two lists are the same as far as both go
+abbrev pub Agree : {A : Type 0} → List A → List A → Type 0
+Agree a b = take (length a) b ≡ take (length b) a
+
 pub record TwoWalks {file : List ℕ} (old new : Call file) : Type 0 where
   -- "the old list is the beginning of the new one"
   pub begins : Begins (listedWords old) (listedWords new)
   -- "the new one has the same list and the same end"
   pub same-list : Final (old .answer) → listedWords new ≡ listedWords old
   pub same-end : Final (old .answer) → new .answer ≡ old .answer
+  -- over their records: with as much room for them too, and else as far as both go
+  pub records-begin : recordRoom old ≤ recordRoom new → Begins (recordWords old) (recordWords new)
+  pub same-records : Final (old .answer) → recordRoom old ≡ recordRoom new → recordWords new ≡ recordWords old
+  pub records-agree : Agree (recordWords old) (recordWords new)
 
 -- "for each mark, .. where both walks ask for a new mark with the same room for it, or neither asks". A mark is what its bytes say: no bytes
 -- and those of depth 0 are the same

@@ -1,5 +1,5 @@
 -- Going on from a mark, in facts: each outcome of a walk from a mark with all that it leaves, and parts that joined equal one walk.
-use Prim.Native.Nat.{ℕ, _+_, _≤_, _<_}
+use Prim.Native.Nat.{ℕ, _+_, _*_, _≤_, _<_}
 use mathlib.Core.Bool.{true, false}
 use mathlib.Core.List.{List, [], _∷_, _++_, map}
 use mathlib.Core.Logic.{_↔_, _⊎_}
@@ -14,13 +14,13 @@ use Rattle.open.specs.Opening.{opening}
 use Rattle.layout.specs.Octets.{Octets}
 use Rattle.seq.specs.Lists.{In}
 use Rattle.mark.specs.Mark.{markRoom, encode, named, malformed, decode}
-use Rattle.context.specs.Entry.{Entry}
+use Rattle.context.specs.Entry.{Entry, wordsEach}
 use Rattle.traversal.specs.declared.Walked.{Walked}
 use Rattle.traversal.specs.declared.Walked.the-variants.{Complete, Truncated, Refused}
 use Rattle.traversal.specs.Traversal.{on, refused, listOf, traversal}
 use Rattle.traversal.specs.From.{withList, lastPath}
 use Rattle.traversal.specs.Walk.{walkCheck, trailFrom, markPassed, placeOf, tableWith}
-use Rattle.traversal.specs.Demand3.{Call, asked, listedNumber, listedWords, listed, Untouched}
+use Rattle.traversal.specs.Demand3.{Call, asked, listedNumber, listedWords, listed, recordRoom, recordWords, Untouched, Agree}
 
 -- the context that a path names is on a list; "before the first root .. always counts as passed"
 abbrev pub OnTrail : (path : List ℕ) → List Entry → Type 0
@@ -134,6 +134,21 @@ module _ {file : List ℕ} where
   joinedEntries c [] = listed c
   joinedEntries c (d ∷ ds) = listed c ++ joinedEntries d ds
 
+  abbrev pub joinedRecords : Call file → List (Call file) → List ℕ
+  joinedRecords c [] = recordWords c
+  joinedRecords c (d ∷ ds) = recordWords c ++ joinedRecords d ds
+
+  -- each part has room for the records of all that it lists
+  abbrev pub AllRecorded : Call file → List (Call file) → Type 0
+  AllRecorded c [] = listedNumber c ≤ recordRoom c
+  AllRecorded c (d ∷ ds) = (listedNumber c ≤ recordRoom c) × AllRecorded d ds
+
+  -- the records of each part are those of the one walk from its first context on, as far as both go: before them it lists n
+  abbrev pub RecordsFrom : (whole : Call file) (n : ℕ) → Call file → List (Call file) → Type 0
+  RecordsFrom whole n c [] = Agree (drop (n * wordsEach) (recordWords whole)) (recordWords c)
+  RecordsFrom whole n c (d ∷ ds) =
+      Agree (drop (n * wordsEach) (recordWords whole)) (recordWords c) × RecordsFrom whole (n + listedNumber c) d ds
+
 -- the same end with another number listed
 abbrev pub withNumber : Walked → ℕ → Walked
 withNumber (Complete n) m = Complete m
@@ -152,8 +167,11 @@ pub record AsOne {file : List ℕ} (c : Call file) (ds : List (Call file)) (whol
 -- "Parts joined equal one walk"
 pub record Joined {file : List ℕ} (c : Call file) (ds : List (Call file)) (whole : Call file) : Type 0 where
   pub lists : listedWords whole ≡ joinedWords c ds
-  -- with all their fields, and so with their records
+  -- with all their fields
   pub entries : listed whole ≡ joinedEntries c ds
+  -- and so with their records, as far as the one walk has room for whole ones; where a part has not, those that it has
+  pub records : AllRecorded c ds → recordWords whole ≡ take (recordRoom whole * wordsEach) (joinedRecords c ds)
+  pub records-of-each : RecordsFrom whole 0 c ds
   pub ends : whole .answer ≡ withNumber (lastPart c ds .answer) (joinedNumber c ds)
   pub table : walkCheck (asked whole) ≡ Check.Passed → whole .now .table ≡ lastPart c ds .now .table
   -- where both ask for one and the mark is passed

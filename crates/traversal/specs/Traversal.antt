@@ -11,7 +11,7 @@ use Rattle.refusal.specs.declared.Check.the-variants.{Passed, Refused}
 use Rattle.refusal.specs.Check.{rule, first}
 use Rattle.open.specs.Format.{meta, u64}
 use Rattle.open.specs.Opening.{field, onOpened}
-use Rattle.context.specs.Context.{Targets, childrenPlace, childrenBytes, ctxId, extent, contextRule, linksRule, childrenRule, targetsOf}
+use Rattle.context.specs.Context.{Targets, childrenPlace, ctxId, extent, childrenEnd, contextRule, linksRule, childrenRule, targetsOf}
 use Rattle.context.specs.Entry.{Entry, entryAt}
 
 -- ---- what is asked, and what it comes to
@@ -103,9 +103,8 @@ Down = (parent : ℕ) (path : List ℕ) (from stop : ℕ) → List Entry → Out
 unfoldable pub visit : Parameters → Down → (parent : ℕ) (path : List ℕ) (p stop : ℕ) → List Entry → Outcome
 visit E down parent path p stop l =
     enter (visitCheck E path p stop l) (E .free l)
-    (down p path (field (E .asked .file) p childrenPlace)
-    (field (E .asked .file) p childrenPlace + field (E .asked .file) p childrenBytes))
-    l (entryAt (E .asked .file) parent path p)
+    (down p path (field (E .asked .file) p childrenPlace) (childrenEnd (E .asked .file) p)) l
+    (entryAt (E .asked .file) parent path p)
 
 -- what follows, unless it ended
 unfoldable pub bind : Outcome → (List Entry → Outcome) → Outcome

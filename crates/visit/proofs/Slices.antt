@@ -1,7 +1,7 @@
 -- One context more in the table, the listing and the records; and the table tells which ids are among the contexts visited.
 use Prim.Native.Nat.{ℕ, zero, suc, _*_, _/_, _<_}
 use mathlib.Core.Bool.{Bool, true, false, not, true≢false}
-use mathlib.Core.List.{List, [], _∷_, _++_, map, map-append, append-nil, append-assoc}
+use mathlib.Core.List.{List, [], _∷_, _++_, map, map-append, append-nil}
 use mathlib.Core.Path.{_≡_, refl, sym, ap, _∙_}
 use native.Mathlib.Nat.{zero-add}
 use native.Mathlib.Omega.{arith}
@@ -18,6 +18,7 @@ use Rattle.traversal.specs.Walk.{placeOf, listingWith, slotsWith, tableWith, wo
 use Rattle.traversal.proofs.Table.{slot-stays}
 use Rattle.traversal.proofs.Ids.{unseen}
 use Rattle.traversal.proofs.Untouched.{length-records}
+use Rattle.traversal.proofs.Records.{words-append, length-words}
 use Rattle.visit.specs.Visit.{Placed, taken}
 
 pub not-not : (b : Bool) → not (not b) ≡ b
@@ -83,16 +84,6 @@ listing-snoc was l e =
     ap (over was 0) (map-append placeOf l (e ∷ [])) ∙ over-append (map placeOf l) (e .place ∷ []) was 0
     ∙ ap (λ (n : ℕ). over (over was 0 (map placeOf l)) n (e .place ∷ [])) (zero-add (length (map placeOf l)) ∙ length-map l placeOf)
     ∙ over-one (over was 0 (map placeOf l)) (length l) (e .place)
-
-words-append : (l m : List Entry) → wordsOf (l ++ m) ≡ wordsOf l ++ wordsOf m
-unfolding wordsOf
-words-append [] m = refl
-words-append (e ∷ l) m = ap (λ (w : List ℕ). entryWords e ++ w) (words-append l m) ∙ sym (append-assoc (entryWords e) (wordsOf l) (wordsOf m))
-
-length-words : (l : List Entry) → length (wordsOf l) ≡ length l * wordsEach
-unfolding wordsOf entryWords
-length-words [] = refl
-length-words (e ∷ l) = omega (arith, length-append (entryWords e) (wordsOf l), length-words l)
 
 words-one : (e : Entry) → wordsOf (e ∷ []) ≡ entryWords e
 unfolding wordsOf

@@ -29,7 +29,7 @@ checksAfter10 file t depth p table =
     (first (rule (childrenRule t file p) No.Array) (slotCheck depth (field file p ctxId) (length table) (taken table (field file p ctxId))))
 
 -- record n holds a context's words, if there is room for all of them
-abbrev pub RecordPut : List ℕ → (p depth n : ℕ) → (was now : List ℕ) → Type 0
-RecordPut file p depth n was now =
-    (parent : ℕ) (path : List ℕ) → length path ≡ depth
+abbrev pub RecordPut : List ℕ → (p depth parent n : ℕ) → (was now : List ℕ) → Type 0
+RecordPut file p depth parent n was now =
+    (path : List ℕ) → length path ≡ depth
     → now ≡ either (ltb n (length was / wordsEach)) (over was (n * wordsEach) (entryWords (entryAt file parent path p))) was

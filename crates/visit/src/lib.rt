@@ -47,13 +47,13 @@ pub fn visit_check(
 }
 
 // The n-th record, where there is room for all of it.
-pub fn put_record(file: &[u8], p: usize, depth: u64, records: &mut [u64], n: usize)
+pub fn put_record(file: &[u8], p: usize, depth: u64, parent: u64, records: &mut [u64], n: usize)
     requires { ⌜ Readable (now file) p ⌝ }
-    ensures { λ _. ⌜ RecordPut (now (file .entry)) p depth n (now (records .entry)) (now (records .exit)) ⌝ }
+    ensures { λ _. ⌜ RecordPut (now (file .entry)) p depth parent n (now (records .entry)) (now (records .exit)) ⌝ }
 {
     if records.len() / RECORD <= n {
         return;
     }
-    let words = context::entry_words(file, p, depth);
+    let words = context::entry_words(file, p, depth, parent);
     buffer::store(records, n * RECORD, &words);
 }

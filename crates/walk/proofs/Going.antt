@@ -85,9 +85,9 @@ module _ (file : List ℕ) (t : Targets) (depth at stop : ℕ) (was : Slices) (l
         (turned ∙ ap (λ (o : Outcome). bind o (next (g .i) p)) (visit-10 E down parent (ups ++ (g .i ∷ [])) p stop (g .so) e))
         (done-refused was s (g .so) n (g .holds) No.Context) (λ k e. let z : _≡_ {A = ℕ} 0 1 = cc in omega arith)
 
-    module _ (deep : suc (length ups) ≡ depth) (r : Walked) (s' : Slices) (does : ContextDoes file t depth p stop n s r s') where
+    module _ (deep : suc (length ups) ≡ depth) (r : Walked) (s' : Slices) (does : ContextDoes file t depth parent p stop n s r s') where
       visited : Done was (here (g .i) p (g .so)) r s'
-      visited = does was (g .so) parent (ups ++ (g .i ∷ [])) (omega (arith, length-append ups (g .i ∷ []))) (g .holds)
+      visited = does was (g .so) (ups ++ (g .i ∷ [])) (omega (arith, length-append ups (g .i ∷ []))) (g .holds)
 
       pub going-next : (q m : ℕ) → r ≡ Complete m → q ≡ extent file p → Going s' (p + q) m
       going-next q m e z = rw z (go-by (suc (g .i)) (p + extent file p) m (here (g .i) p (g .so)) s' turned (rw e at visited))

@@ -71,6 +71,6 @@ module _ (file : List ℕ) {ps : List (List ℕ)} (o : Sections meta file ps) (t
           ∙ rest-end E (level E depthLimit) 0 [] 0 place (place + bytes) [] (omega arith)))
 
       pub from-roots : (r : Walked) (listing' table' records' : List ℕ)
-          → ArrayDoes file t 1 place (place + bytes) 0 begun r (slices listing' table' records')
+          → ArrayDoes file t 1 0 place (place + bytes) 0 begun r (slices listing' table' records')
           → Leaves itself file was r (slices listing' table' records')
-      from-roots r listing' table' records' does = left r listing' table' records' (does was [] 0 [] refl empty)
+      from-roots r listing' table' records' does = left r listing' table' records' (does was [] [] refl empty)

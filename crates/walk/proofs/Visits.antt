@@ -23,7 +23,7 @@ use Rattle.walk.specs.State.{Holds, ArrayDoes, ContextDoes}
 use Rattle.walk.proofs.Slices.{long, one-more}
 use Rattle.walk.proofs.Going.{done-cut, done-refused, done-complete}
 
-module _ (file : List ℕ) (t : Targets) (depth p stop n : ℕ) (s : Slices) where
+module _ (file : List ℕ) (t : Targets) (depth parent p stop n : ℕ) (s : Slices) where
   abbrev id : ℕ
   id = field file p ctxId
 
@@ -40,30 +40,30 @@ module _ (file : List ℕ) (t : Targets) (depth p stop n : ℕ) (s : Slices) whe
     checked : (was : Slices) (l : List Entry) (path : List ℕ) → length path ≡ depth → Holds was l s n → visitCheck (E was) path p stop l ≡ checks
     checked was l path d h = by-table (E was) l (s .table) (h .filled) (h .placed) path depth p stop d fine
 
-    pub does-refused : (c : Check) (r : Refusal) → c ≡ checks → c ≡ Check.Refused r → ContextDoes file t depth p stop n s (Refused r n) s
-    does-refused c r e z was l parent path d h =
+    pub does-refused : (c : Check) (r : Refusal) → c ≡ checks → c ≡ Check.Refused r → ContextDoes file t depth parent p stop n s (Refused r n) s
+    does-refused c r e z was l path d h =
         rw (visit-refused (E was) (down was) parent path p stop l r (checked was l path d h ∙ sym e ∙ z)) (done-refused was s l n h r)
 
     module _ (c : Check) (e : c ≡ checks) (z : c ≡ Check.Passed) where
-      pub does-cut : length (s .listing) ≤ n → ContextDoes file t depth p stop n s (Truncated n) s
-      does-cut k was l parent path d h =
+      pub does-cut : length (s .listing) ≤ n → ContextDoes file t depth parent p stop n s (Truncated n) s
+      does-cut k was l path d h =
           rw
           (visit-cut (E was) (down was) parent path p stop l (checked was l path d h ∙ sym e ∙ z)
           (le-ltb (length l) (length (was .listing)) (omega (arith, long h, h .counted))))
           (done-cut was s l n h)
 
-      module _ (records : List ℕ) (put : RecordPut file p depth n (s .records) records) (i place bytes : ℕ) (ei : i ≡ id)
+      module _ (records : List ℕ) (put : RecordPut file p depth parent n (s .records) records) (i place bytes : ℕ) (ei : i ≡ id)
           (ep : place ≡ field file p childrenPlace) (eb : bytes ≡ field file p childrenBytes) (k : n < length (s .listing)) (y : 0 < p) where
         abbrev after : Slices
         after = slices (set (s .listing) n p) (set (s .table) i p) records
 
-        module _ (was : Slices) (l : List Entry) (parent : ℕ) (path : List ℕ) (d : length path ≡ depth) (h : Holds was l s n) where
+        module _ (was : Slices) (l : List Entry) (path : List ℕ) (d : length path ≡ depth) (h : Holds was l s n) where
           abbrev with : List Entry
           with = l ++ (entryAt file parent path p ∷ [])
 
           listed : Holds was with after (n + 1)
           unfolding entryAt
-          listed = rw ei (one-more h (entryAt file parent path p) records y (put parent path d))
+          listed = rw ei (one-more h (entryAt file parent path p) records y (put path d))
 
           goes-on : visit (E was) (down was) parent path p stop l ≡ level (E was) (suc (suc depthLimit - (depth + 1))) p path place (place + bytes) with
           goes-on =
@@ -72,15 +72,15 @@ module _ (file : List ℕ) (t : Targets) (depth p stop n : ℕ) (s : Slices) whe
               (lt-ltb (length l) (length (was .listing)) (omega (arith, long h, h .counted)))
               ∙ rw (ep, eb, ← less)
 
-        pub does-leaf : bytes ≡ 0 → ContextDoes file t depth p stop n s (Complete (n + 1)) after
-        does-leaf w was l parent path d h =
+        pub does-leaf : bytes ≡ 0 → ContextDoes file t depth parent p stop n s (Complete (n + 1)) after
+        does-leaf w was l path d h =
             let left : ℕ = suc depthLimit - (depth + 1) in
-            let so = with was l parent path d h in
-            done-complete was after so (n + 1) (listed was l parent path d h) _
-            (goes-on was l parent path d h ∙ level-rest (E was) left p path place (place + bytes) so
+            let so = with was l path d h in
+            done-complete was after so (n + 1) (listed was l path d h) _
+            (goes-on was l path d h ∙ level-rest (E was) left p path place (place + bytes) so
             ∙ rest-end (E was) (level (E was) left) p path 0 place (place + bytes) so (omega arith))
 
-        pub does-deep : (r : Walked) (s' : Slices) → ArrayDoes file t (depth + 1) place (place + bytes) (n + 1) after r s'
-            → ContextDoes file t depth p stop n s r s'
-        does-deep r s' does was l parent path d h =
-            rw (goes-on was l parent path d h) (does was (with was l parent path d h) p path (omega arith) (listed was l parent path d h))
+        pub does-deep : (r : Walked) (s' : Slices) → ArrayDoes file t (depth + 1) p place (place + bytes) (n + 1) after r s'
+            → ContextDoes file t depth parent p stop n s r s'
+        does-deep r s' does was l path d h =
+            rw (goes-on was l path d h) (does was (with was l path d h) path (omega arith) (listed was l path d h))

@@ -24,14 +24,15 @@ pub record Done (was : Slices) (o : Outcome) (r : Walked) (s : Slices) : Type 0 
   pub holds : Holds was (listOf o) s (length (listOf o))
   pub says : r ≡ walkedOf o
 
--- wherever the slices hold the contexts before it, they hold in the end those of an array too, whose contexts stand at a depth
-abbrev pub ArrayDoes : List ℕ → Targets → (depth at stop n : ℕ) → Slices → Walked → Slices → Type 0
-ArrayDoes file t depth at stop n s r s' =
-    (was : Slices) (l : List Entry) (parent : ℕ) (ups : List ℕ) → suc (length ups) ≡ depth → Holds was l s n
+-- wherever the slices hold the contexts before it, they hold in the end those of an array too, whose contexts stand at a depth and are
+-- a parent's children
+abbrev pub ArrayDoes : List ℕ → Targets → (depth parent at stop n : ℕ) → Slices → Walked → Slices → Type 0
+ArrayDoes file t depth parent at stop n s r s' =
+    (was : Slices) (l : List Entry) (ups : List ℕ) → suc (length ups) ≡ depth → Holds was l s n
     → Done was (level (limited (askWith file unmarked was) t) (suc (suc depthLimit - depth)) parent ups at stop l) r s'
 
 -- and those of a context with all below it
-abbrev pub ContextDoes : List ℕ → Targets → (depth p stop n : ℕ) → Slices → Walked → Slices → Type 0
-ContextDoes file t depth p stop n s r s' =
-    (was : Slices) (l : List Entry) (parent : ℕ) (path : List ℕ) → length path ≡ depth → Holds was l s n
+abbrev pub ContextDoes : List ℕ → Targets → (depth parent p stop n : ℕ) → Slices → Walked → Slices → Type 0
+ContextDoes file t depth parent p stop n s r s' =
+    (was : Slices) (l : List Entry) (path : List ℕ) → length path ≡ depth → Holds was l s n
     → Done was (visit (limited (askWith file unmarked was) t) (level (limited (askWith file unmarked was) t) (suc depthLimit - depth)) parent path p stop l) r s'

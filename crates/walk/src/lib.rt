@@ -18,11 +18,13 @@ use refusal::Check;
 use refusal::Refusal;
 use traversal::Walked;
 
-// The contexts from `at` to `stop`, at a depth, with all below them; `count` are listed before.
+// The contexts from `at` to `stop`, at a depth, with all below them: children of the one at `parent`, or roots, with 0. `count` are listed
+// before.
 fn array(
     file: &[u8],
     targets: &[u64; TARGETS],
     depth: u64,
+    parent: u64,
     at: usize,
     stop: usize,
     listing: &mut [u64],
@@ -31,7 +33,7 @@ fn array(
     count: usize,
 ) -> Walked
     requires { ⌜ (0 < at) × (stop ≤ length (now file)) × (targetsIn (now targets) .at + targetsIn (now targets) .size ≤ length (now file)) × (depth ≤ suc depthLimit) ⌝ }
-    ensures { λ r. ⌜ ArrayDoes (now (file .entry)) (targetsIn (now (targets .entry))) depth at stop count (slices (now (listing .entry)) (now (table .entry)) (now (records .entry)))
+    ensures { λ r. ⌜ ArrayDoes (now (file .entry)) (targetsIn (now (targets .entry))) depth parent at stop count (slices (now (listing .entry)) (now (table .entry)) (now (records .entry)))
         r (slices (now (listing .exit)) (now (table .exit)) (now (records .exit))) ⌝ }
 {
     let mut p = at;
@@ -40,7 +42,18 @@ fn array(
         if !context::context_rule(file, p, stop) {
             return Walked::Refused(Refusal::Context, n);
         }
-        let walked = visit(file, targets, depth, p, stop, listing, table, records, n);
+        let walked = visit(
+            file,
+            targets,
+            depth,
+            parent,
+            p,
+            stop,
+            listing,
+            table,
+            records,
+            n,
+        );
         let Walked::Complete(k) = walked else {
             return walked;
         };
@@ -55,6 +68,7 @@ fn visit(
     file: &[u8],
     targets: &[u64; TARGETS],
     depth: u64,
+    parent: u64,
     p: usize,
     stop: usize,
     listing: &mut [u64],
@@ -63,7 +77,7 @@ fn visit(
     n: usize,
 ) -> Walked
     requires { ⌜ (0 < p) × (contextRule (now file) p stop ≡ true) × (stop ≤ length (now file)) × (targetsIn (now targets) .at + targetsIn (now targets) .size ≤ length (now file)) × (depth ≤ suc depthLimit) ⌝ }
-    ensures { λ r. ⌜ ContextDoes (now (file .entry)) (targetsIn (now (targets .entry))) depth p stop n (slices (now (listing .entry)) (now (table .entry)) (now (records .entry)))
+    ensures { λ r. ⌜ ContextDoes (now (file .entry)) (targetsIn (now (targets .entry))) depth parent p stop n (slices (now (listing .entry)) (now (table .entry)) (now (records .entry)))
         r (slices (now (listing .exit)) (now (table .exit)) (now (records .exit))) ⌝ }
 {
     let check = visit::visit_check(file, targets, depth, p, table);
@@ -76,7 +90,7 @@ fn visit(
     let id = le::load_u32(file, p + CTX_ID) as usize;
     listing[n] = p as u64;
     table[id] = p as u64;
-    visit::put_record(file, p, depth, records, n);
+    visit::put_record(file, p, depth, parent, records, n);
     let bytes = le::load_u64(file, p) as usize;
     if bytes == 0 {
         return Walked::Complete(n + 1);
@@ -87,6 +101,7 @@ fn visit(
         file,
         targets,
         depth + 1,
+        p as u64,
         place,
         end,
         listing,
@@ -117,7 +132,7 @@ fn walk_in(
         return Walked::Complete(0);
     }
     let end = place + bytes;
-    array(file, &targets, 1, place, end, listing, table, records, 0)
+    array(file, &targets, 1, 0, place, end, listing, table, records, 0)
 }
 
 // The entry point with records: words of the listed contexts, as far as there is room for whole ones.

@@ -4,6 +4,9 @@ ghost use Prim.Native.Nat.{_≤_};
 use context::RECORD;
 use libc::STDOUT_FILENO;
 
+// Where a record's flex fields end: the word of its parent, which the listing program prints.
+const PARENT: usize = 11;
+
 // What the table holds before a walk.
 const BEFORE: u64 = 7;
 
@@ -36,7 +39,7 @@ fn flex(records: &[u64], i: usize) {
     io::write_all(STDOUT_FILENO, b"flex");
     spaced(records[at]);
     let mut k = 5;
-    while k < RECORD {
+    while k < PARENT {
         spaced(records[at + k]);
         k += 1;
     }

@@ -1,5 +1,5 @@
 /* The contexts of meta.db in preorder, without recursion: for each level from the roots to the current array, the stack
- * has the part that is yet to be visited. */
+ * has the part that is yet to be visited, and `parents` the place of the context whose children the array has. */
 #include "meta.h"
 
 #include "plain.h"
@@ -63,7 +63,8 @@ INLINED uint32_t check_context(const struct meta *meta, struct span rest, uint64
     return HPCDB_OK;
 }
 
-INLINED void write_record(const uint8_t *context, uint64_t place, uint64_t depth, uint64_t *record)
+INLINED void write_record(const uint8_t *context, uint64_t place, uint64_t depth, const uint64_t *parent,
+                          uint64_t *record)
 {
     unsigned flags = context[20] & (HAS_FUNCTION | HAS_SOURCE | HAS_POINT);
     struct flex flex = flex_of(flags);
@@ -79,6 +80,7 @@ INLINED void write_record(const uint8_t *context, uint64_t place, uint64_t depth
     record[HPCDB_RECORD_LINE] = flags & HAS_SOURCE ? (uint32_t)flex_word(context, flex.source + 1) : 0;
     record[HPCDB_RECORD_MODULE] = flags & HAS_POINT ? flex_word(context, flex.point) : 0;
     record[HPCDB_RECORD_OFFSET] = flags & HAS_POINT ? flex_word(context, flex.point + 1) : 0;
+    record[HPCDB_RECORD_PARENT] = *parent;
 }
 
 /* What a walk may write to. */
@@ -105,9 +107,10 @@ static inline bool same_path(const struct path *a, const struct path *b)
     return a->depth == b->depth && memcmp(a->numbers, b->numbers, 4 * a->depth) == 0;
 }
 
-/* Makes the other checks of a context and lists it, as the one after `listed` others; or only passes it. */
+/* Makes the other checks of a context and lists it, as the one after `listed` others; or only passes it. Its parent is
+ * read only for a record. */
 INLINED uint32_t list(const struct lent *lent, const uint8_t *context, uint64_t place, uint64_t depth,
-                            bool passes, uint64_t listed)
+                            const uint64_t *parent, bool passes, uint64_t listed)
 {
     uint64_t id = load32(context + 16);
 
@@ -126,7 +129,7 @@ INLINED uint32_t list(const struct lent *lent, const uint8_t *context, uint64_t 
     lent->listing[listed] = place;
     lent->table[id] = place;
     if (listed < lent->record_count)
-        write_record(context, place, depth, lent->records + listed * HPCDB_RECORD_WORDS);
+        write_record(context, place, depth, parent, lent->records + listed * HPCDB_RECORD_WORDS);
     return HPCDB_OK;
 }
 
@@ -136,10 +139,12 @@ INLINED uint32_t walk(const struct meta *meta, const struct lent *lent, const st
                       uint64_t *listed)
 {
     struct span stack[DEEPEST + 1];
+    uint64_t parents[DEEPEST + 1];
     unsigned level = 0;
     bool passes = mark != NULL && mark->depth != 0;
 
     stack[0] = meta->roots;
+    parents[0] = 0;
     for (;;) {
         while (stack[level].start == stack[level].end) {
             if (level == 0)
@@ -151,7 +156,7 @@ INLINED uint32_t walk(const struct meta *meta, const struct lent *lent, const st
         uint32_t code;
         if ((code = check_context(meta, stack[level], &size, &children)) != HPCDB_OK)
             return code;
-        if ((code = list(lent, meta->file + place, place, level + 1, passes, *listed)) != HPCDB_OK)
+        if ((code = list(lent, meta->file + place, place, level + 1, &parents[level], passes, *listed)) != HPCDB_OK)
             return code;
         *listed += !passes;
         if (mark != NULL) {
@@ -159,8 +164,10 @@ INLINED uint32_t walk(const struct meta *meta, const struct lent *lent, const st
             passes = passes && !same_path(path, mark);
         }
         stack[level].start += size;
-        if (children.start != children.end)
+        if (children.start != children.end) {
             stack[++level] = children;
+            parents[level] = place;
+        }
     }
 }
 

@@ -41,7 +41,7 @@ pub struct Tally {
 }
 
 /// Kinds of answers and files that a run has to meet.
-const KINDS: [&str; 78] = [
+const KINDS: [&str; 82] = [
     "sound file",
     "damaged file",
     "sound lists",
@@ -66,6 +66,10 @@ const KINDS: [&str; 78] = [
     "whole tree of no context",
     "whole tree of more than 100 contexts",
     "room that ends inside a record",
+    "record of a context at depth 3 or more",
+    "record of a context behind another's children",
+    "record of a context whose parent is not listed",
+    "records of two depths whose parents are not listed",
     "malformed mark",
     "malformed mark of a file that does not open",
     "mark of no context",
@@ -153,8 +157,15 @@ impl Tally {
         self.codes[question.function as usize][reply.code as usize] += 1;
         let out = reply.memory.out.body();
         match question.function {
-            MetaWalk | MetaRecords => self.add_walk(question, reply.code, out[0]),
-            MetaWalkFrom => self.add_walk_from(question, file, reply),
+            MetaWalk => self.add_walk(question, reply.code, out[0]),
+            MetaRecords => {
+                self.add_walk(question, reply.code, out[0]);
+                self.add_records(reply);
+            }
+            MetaWalkFrom => {
+                self.add_walk_from(question, file, reply);
+                self.add_records(reply);
+            }
             ProfileWrite => self.add_write(question, file, reply),
             DcpiTotals | DcpiLookup | DcpiEntries => self.add_samples(question, file, reply),
             _ if reply.code != ANSWERED => {}
@@ -208,6 +219,28 @@ impl Tally {
         if !room.is_multiple_of(RECORD_WORDS) && room / RECORD_WORDS < listed as usize {
             self.add_kind("room that ends inside a record");
         }
+    }
+
+    /// A parent comes before its children: that of the first context is not listed, nor is that of the first one
+    /// further up.
+    fn add_records(&mut self, reply: &Reply) {
+        let (rows, _) = reply.memory.slices[2].body().as_chunks::<RECORD_WORDS>();
+        let rows: Vec<[u64; 2]> = rows
+            .iter()
+            .take(reply.memory.out.body()[0] as usize)
+            .map(|&[_, depth, .., parent]| [depth, parent])
+            .collect();
+        let Some(&[first_depth, first_parent]) = rows.first() else {
+            return;
+        };
+        let further_up = rows.iter().find(|[depth, _]| *depth < first_depth);
+        let behind_children = rows.windows(2).any(|pair| pair[1][0] < pair[0][0] && pair[1][1] != 0);
+        self.add_kinds(&[
+            (rows.iter().any(|[depth, _]| *depth >= 3), "record of a context at depth 3 or more"),
+            (behind_children, "record of a context behind another's children"),
+            (first_parent != 0, "record of a context whose parent is not listed"),
+            (further_up.is_some_and(|[_, parent]| *parent != 0), "records of two depths whose parents are not listed"),
+        ]);
     }
 
     fn add_walk_from(&mut self, question: &Question, file: &[u8], reply: &Reply) {

@@ -2,6 +2,7 @@
 //! writer and the library over lists.
 
 use differential::reader::trace::Sample;
+use differential::reader::walk::RECORD_WORDS;
 use differential::reader::{profile, trace, Refusal};
 use differential::writer::Lists;
 use differential::{by_reader, ffi};
@@ -138,18 +139,19 @@ fn wide_file() -> Vec<u8> {
 
 type WalkFrom = fn(&[u8], &[u8], u64, &mut [u64], &mut [u64], &mut [u64], &mut [u8], &mut [u64; 1]) -> u32;
 
-/// Code, number listed, the one word of the listing, which is 0 before, and the new mark, as the library and the reader
-/// both have them.
-fn gone_on(file: &[u8], mark: &[u8]) -> (u32, u64, u64, Vec<u8>) {
+/// Code, number listed, the one word of the listing and the parent in the one record, which are 0 before, and the new
+/// mark, as the library and the reader both have them.
+fn gone_on(file: &[u8], mark: &[u8]) -> (u32, u64, [u64; 2], Vec<u8>) {
     let sides: [WalkFrom; 2] = [ffi::hpcdb_meta_walk_from, by_reader::hpcdb_meta_walk_from];
     let [by_library, by_reader] = sides.map(|walk_from| {
         let (mut listing, mut table, mut new_mark, mut out) = ([0], vec![7; 70_001], [0; 805], [7]);
-        let code = walk_from(file, mark, 1, &mut listing, &mut table, &mut [], &mut new_mark, &mut out);
-        (code, out[0], listing[0], new_mark[..13].to_vec(), table)
+        let mut record = [0; RECORD_WORDS];
+        let code = walk_from(file, mark, 1, &mut listing, &mut table, &mut record, &mut new_mark, &mut out);
+        (code, out[0], [listing[0], record[11]], new_mark[..13].to_vec(), table)
     });
     assert_eq!(by_library, by_reader);
-    let (code, listed, place, new_mark, _) = by_reader;
-    (code, listed, place, new_mark)
+    let (code, listed, place_and_parent, new_mark, _) = by_reader;
+    (code, listed, place_and_parent, new_mark)
 }
 
 /// Numbers among siblings have 32 bits, the length of a mark 16.
@@ -157,21 +159,21 @@ fn gone_on(file: &[u8], mark: &[u8]) -> (u32, u64, u64, Vec<u8>) {
 fn marks_of_a_wide_tree() {
     let file = wide_file();
     let of_child = |number| bytes(&[(2, 13), (2, 1), (1, 2), (4, 0), (4, number)]);
-    let place = |number: u64| 232 + 24 * number;
+    let place_and_parent = |number: u64| [232 + 24 * number, 208];
     for number in [0, 255, 256, 65_534, 65_535, 65_536, 69_998] {
         assert_eq!(
             gone_on(&file, &of_child(number)),
-            (if number == 69_998 { 0 } else { 101 }, 1, place(number + 1), of_child(number + 1))
+            (if number == 69_998 { 0 } else { 101 }, 1, place_and_parent(number + 1), of_child(number + 1))
         );
     }
-    assert_eq!(gone_on(&file, &of_child(69_999)), (0, 0, 0, of_child(69_999)));
+    assert_eq!(gone_on(&file, &of_child(69_999)), (0, 0, [0; 2], of_child(69_999)));
     for number in [70_000, 1 << 24, 1 << 31, u64::from(u32::MAX)] {
-        assert_eq!(gone_on(&file, &of_child(number)), (18, 0, 0, vec![0; 13]));
+        assert_eq!(gone_on(&file, &of_child(number)), (18, 0, [0; 2], vec![0; 13]));
     }
     // modulo 2^16 their length is what they say
     for mark in [of_child(5), bytes(&[(5, 0x1_0005)])] {
         let longer = [mark, vec![0; 65_536]].concat();
-        assert_eq!(gone_on(&file, &longer), (18, 0, 0, vec![0; 13]));
+        assert_eq!(gone_on(&file, &longer), (18, 0, [0; 2], vec![0; 13]));
     }
 }
 

@@ -168,11 +168,11 @@ fn shown_walk(file: &[u8], room: usize, slots: usize) -> String {
     let mut records = vec![UNTOUCHED; room * RECORD_WORDS];
     let walked = walk::records(file, &mut listing, &mut table, &mut records);
     let rows = &records.as_chunks::<RECORD_WORDS>().0[..walked.listed];
-    let mut out = "place depth id type relation\n".to_owned();
+    let mut out = "place depth id type relation parent\n".to_owned();
     for (row, place) in rows.iter().zip(&listing) {
-        let [own_place, depth, id, relation, lexical_type, ..] = row;
+        let [own_place, depth, id, relation, lexical_type, .., parent] = row;
         assert_eq!(own_place, place);
-        writeln!(out, "{place} {depth} {id} {lexical_type} {relation}").expect("a String takes it");
+        writeln!(out, "{place} {depth} {id} {lexical_type} {relation} {parent}").expect("a String takes it");
     }
     let end = match walked.end {
         End::Whole => "whole".to_owned(),
@@ -180,7 +180,7 @@ fn shown_walk(file: &[u8], room: usize, slots: usize) -> String {
         End::Refused(refusal) => format!("refused {}", refusal.number()),
     };
     writeln!(out, "{end} {}", walked.listed).expect("a String takes it");
-    for [place, _, _, _, _, flex @ ..] in rows.iter().filter(|row| row[5] != 0) {
+    for [place, _, _, _, _, flex @ .., _] in rows.iter().filter(|row| row[5] != 0) {
         let flex: String = flex.iter().map(|n| format!(" {n}")).collect();
         writeln!(out, "flex {place}{flex}").expect("a String takes it");
     }

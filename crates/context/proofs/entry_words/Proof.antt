@@ -31,7 +31,7 @@ flex-word-requires-4 c κs = let known = c .before .before .before .before in (i
 
 returns : tie.Need-returns
 unfolding entryWords entryAt flexAt field
-returns c = λ parent path depth. rw (
+returns c = λ path depth. rw (
   depth,
   c .load-u83 .ensures,
   c .before .load-u82 .ensures,

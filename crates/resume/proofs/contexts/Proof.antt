@@ -114,29 +114,30 @@ store-visit-requires c κs =
 
 list-or-pass-requires : tie.Need-list-or-pass-requires Inv-loop μ-loop
 list-or-pass-requires c κs =
-    let told = c .before .before .before .before .before .before .before in
+    let told = c .before .before .before .before .before .before .before .before in
     ((sound told .can, omega (arith, sound told .deeper)), (entry (turn told) .pre .1 .0, (goes told .fits, λ none. flat (turn told) .seeks none .not-all)))
 
 on-from-requires : tie.Need-on-from-requires Inv-loop μ-loop
 on-from-requires c κs =
-    let s = sound (c .before .before .before .before .before .before .before .before .before .before .before .before) in
+    let s = sound (c .before .before .before .before .before .before .before .before .before .before .before .before .before) in
     (omega (arith, s .deeper), s .lies)
 
 loop-less : tie.Need-loop-less Inv-loop μ-loop
 loop-less c =
-    let told = c .before .before .before .before .before .before .before .before .before .before .before .before .before in
+    let told = c .before .before .before .before .before .before .before .before .before .before .before .before .before .before in
     let here = turn told .loop .here in
     let filled = fills (turn told .loop .table) (field (file (turn told)) (here .p) ctxId) (here .p) (sound told .slot) (sound told .fresh) (flat (turn told) .some) in
-    rw (c .before .before .before .before .before .before .before .before .before .before .store-visit .ensures .0)
+    rw (c .before .before .before .before .before .before .before .before .before .before .before .store-visit .ensures .0)
     (omega (arith, filled, ap (λ (h : Cursor). h .up) (c .on-from .ensures), on-up (file (turn told)) here))
 
 loop-again : tie.Need-loop-again Inv-loop μ-loop
 loop-again c =
-    let told = c .before .before .before .before .before .before .before .before .before .before .before .before .before in
-    let stored = c .before .before .before .before .before .before .before .before .before .before .store-visit in
+    let told = c .before .before .before .before .before .before .before .before .before .before .before .before .before .before in
+    let stored = c .before .before .before .before .before .before .before .before .before .before .before .store-visit in
     let listed = c .before .before .before .before .before .list-or-pass in
     λ m b. rw (listed .ensures .0, listed .ensures .1 .0, stored .ensures .0, stored .ensures .1, c .on-from .ensures)
-    (flat-on (turn told .loop .inv m b) (more told) (goes told) (sound told .lies) (listed .last .1 .1 .1 .1 .0) (listed .ensures .1 .1))
+    (flat-on (turn told .loop .inv m b) (more told) (goes told) (sound told .lies) (listed .last .1 .1 .1 .1 .1 .0)
+    (rw (stored .ensures .1) at (listed .ensures .1 .1)))
 
 -- ---- the end, or back up
 

@@ -6,8 +6,9 @@ use native.Mathlib.Omega.{arith}
 use borrow.Author.Needs.{needs}
 use denote.Ref.{now}
 use lib.ListN.{getD}
+use Rattle.context.specs.Context.{childrenEnd}
 use Rattle.visit.proofs.Checks.{place-read, bytes-read}
-use Rattle.resume.specs.Way.{childrenEnd, endBelow, Lies, LiesBelow}
+use Rattle.resume.specs.Way.{endBelow, Lies, LiesBelow}
 use Rattle.resume.proofs.Counting.{lies-fields}
 use Rattle.resume.proofs.end_of.Statement.{statement}
 use Rattle.resume.proofs.end_of.Tie as tie

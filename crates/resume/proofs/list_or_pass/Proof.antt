@@ -18,19 +18,19 @@ use Rattle.resume.proofs.list_or_pass.Statement.{statement}
 use Rattle.resume.proofs.list_or_pass.Tie as tie
 
 -- before the mark is passed
-passed-one : (file path : List ℕ) (k : ℕ) (sk : Seek) (p depth up : ℕ) (listing records : List ℕ) (next : Seek) (n : ℕ) → k ≡ 0
+passed-one : (file path : List ℕ) (k : ℕ) (sk : Seek) (p depth parent up : ℕ) (listing records : List ℕ) (next : Seek) (n : ℕ) → k ≡ 0
     → next ≡ stepped path sk up → n ≡ either (eqb (next .matched) (length path)) 1 0
-    → (progress n next ≡ progressMore path k sk up) × ((listing ≡ listingMore k p listing) × RecordMore file p depth k records records)
+    → (progress n next ≡ progressMore path k sk up) × ((listing ≡ listingMore k p listing) × RecordMore file p depth parent k records records)
 unfolding progressMore listingMore
-passed-one file path k sk p depth up listing records next n z e f = rw z (rw (f, e) (refl, (refl, refl)))
+passed-one file path k sk p depth parent up listing records next n z e f = rw z (rw (f, e) (refl, (refl, refl)))
 
 -- after the mark
-listed-one : (file path : List ℕ) (k : ℕ) (sk : Seek) (p depth up : ℕ) (listing records records' : List ℕ) → (k ≡ 0 → ⊥)
-    → RecordPut file p depth (k - 1) records records'
-    → (progress (k + 1) sk ≡ progressMore path k sk up) × ((set listing (k - 1) p ≡ listingMore k p listing) × RecordMore file p depth k records records')
+listed-one : (file path : List ℕ) (k : ℕ) (sk : Seek) (p depth parent up : ℕ) (listing records records' : List ℕ) → (k ≡ 0 → ⊥)
+    → RecordPut file p depth parent (k - 1) records records'
+    → (progress (k + 1) sk ≡ progressMore path k sk up) × ((set listing (k - 1) p ≡ listingMore k p listing) × RecordMore file p depth parent k records records')
 unfolding progressMore listingMore
-listed-one file path zero sk p depth up listing records records' n h = absurd (n refl)
-listed-one file path (suc k) sk p depth up listing records records' n h =
+listed-one file path zero sk p depth parent up listing records records' n h = absurd (n refl)
+listed-one file path (suc k) sk p depth parent up listing records records' n h =
     let more : suc k + 1 ≡ suc (suc k) = omega arith in
     (rw more, (rw (sub-one (suc k)), rw (sub-one (suc k)) at h))
 
@@ -44,7 +44,7 @@ unfolding either
 returns c =
     let entry = c .before .before .before .before .before .before .before .before .before in
     let found = ap (eqb (c .before .before .step .result .matched)) (c .before .depth .ensures) in
-    passed-one (now (entry .args .file)) (pathIn (decode (now (entry .args .mark)))) _ _ _ _ _ _ _ _ 1 (c .before .before .before .if1 .taken)
+    passed-one (now (entry .args .file)) (pathIn (decode (now (entry .args .mark)))) _ _ _ _ _ _ _ _ _ 1 (c .before .before .before .if1 .taken)
     (c .before .before .step .ensures) (rw (sym found ∙ c .if2 .taken))
 
 returns-2 : tie.Need-returns-2
@@ -52,16 +52,18 @@ unfolding either
 returns-2 c =
     let entry = c .before .before .before .before .before .before .before .before .before in
     let found = ap (eqb (c .before .before .step .result .matched)) (c .before .depth .ensures) in
-    passed-one (now (entry .args .file)) (pathIn (decode (now (entry .args .mark)))) _ _ _ _ _ _ _ _ 0 (c .before .before .before .if1 .taken)
+    passed-one (now (entry .args .file)) (pathIn (decode (now (entry .args .mark)))) _ _ _ _ _ _ _ _ _ 0 (c .before .before .before .if1 .taken)
     (c .before .before .step .ensures) (rw (sym found ∙ c .if2 .left))
 
 returns-3 : tie.Need-returns-3
 returns-3 c =
-    let args = c .before .before .before .before .before .before .before .before .before .before .args in
-    listed-one (now (args .file)) (pathIn (decode (now (args .mark)))) _ _ _ _ _ _ _ _ (c .before .before .before .before .if1 .left) (c .before .before .put-record .ensures)
+    let args = c .before .before .before .before .before .before .before .before .before .before .before .args in
+    listed-one (now (args .file)) (pathIn (decode (now (args .mark)))) _ _ _ _ _ _ _ _ _ (c .before .before .before .before .before .if1 .left)
+    (rw (c .before .before .before .before .parent-of .ensures) at (c .before .before .put-record .ensures))
 
 pub list-or-pass-spec : {M : Type 1} → statement M
 list-or-pass-spec =
     tie.close
     (tie.spec step-requires (λ c κs. search needs) returns returns-2 (λ c. search needs) (λ c. search needs) (λ c. search needs)
-    (λ c. search needs) (λ c. search needs) (λ c κs. search needs) (λ c. search needs) (λ c. search needs) (λ c. search needs) returns-3)
+    (λ c. search needs) (λ c κs. search needs) (λ c. search needs) (λ c κs. search needs) (λ c. search needs) (λ c. search needs)
+    (λ c. search needs) returns-3)

@@ -2,7 +2,7 @@
 use Prim.Native.Nat.{_-_}
 use native.Mathlib.Omega.{arith}
 use denote.Ref.{now}
-use Rattle.traversal.proofs.Steps.{takes-some}
+use Rattle.context.proofs.Siblings.{takes-some}
 use Rattle.resume.proofs.Counting.{extent-most, CountedTo, numbered-start, numbered-small, numbered-more, numbered-end}
 use Rattle.resume.proofs.number_of.Statement.{statement}
 use Rattle.resume.proofs.number_of.Tie as tie

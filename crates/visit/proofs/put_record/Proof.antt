@@ -14,7 +14,7 @@ unfolding either
 returns c =
     let args = c .before .before .before .args in
     let if1 = c .if1 in
-    λ parent path d. rw (le-ltb (args .n) (length (now (args .records)) / 11) (if1 .taken))
+    λ path d. rw (le-ltb (args .n) (length (now (args .records)) / 12) (if1 .taken))
 
 returns-2 : tie.Need-returns-2
 unfolding either
@@ -23,7 +23,7 @@ returns-2 c =
     let if1 = c .before .before .before .before .before .before .if1 in
     let entry-words = c .before .before .before .before .before .entry-words in
     let store = c .before .before .store in
-    λ parent path d. rw (lt-ltb (args .n) (length (now (args .records)) / 11) (omega (arith, if1 .left)), ← entry-words .ensures parent path d)
+    λ path d. rw (lt-ltb (args .n) (length (now (args .records)) / 12) (omega (arith, if1 .left)), ← entry-words .ensures path d)
     (store .ensures)
 
 pub put-record-spec : {M : Type 1} → statement M

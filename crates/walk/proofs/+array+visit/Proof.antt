@@ -16,12 +16,12 @@ use Rattle.context.specs.Context.{childrenPlace, childrenBytes}
 use Rattle.context.specs.Sound.{targetsIn}
 use Rattle.context.specs.Entry.{Entry}
 use Rattle.context.proofs.Laws.{ends, readable}
+use Rattle.context.proofs.Siblings.{takes-some}
 use Rattle.traversal.specs.declared.Walked.{Walked}
 use Rattle.traversal.specs.declared.Walked.the-variants.{Complete}
 use Rattle.traversal.specs.Traversal.{depthLimit}
 use Rattle.traversal.specs.Walk.{Slices, slices}
 use Rattle.traversal.proofs.Walked.{the-type as walked-type}
-use Rattle.traversal.proofs.Steps.{takes-some}
 use Rattle.walk.specs.State.{Holds}
 use Rattle.walk.proofs.Going.{Going, going-start, going-10, going-end, going-next, going-stop}
 use Rattle.visit.proofs.Checks.{id-read, place-read, bytes-read, safe}
@@ -49,10 +49,10 @@ not-complete : (w : Walked) → OneOf (1 ∷ 2 ∷ []) (tagOf walked-type w) →
 not-complete w h k e = ⊎-elim (λ g. omega (arith, ap (tagOf walked-type) e, g)) (λ g. omega (arith, ap (tagOf walked-type) e, g)) h
 
 abbrev μ-array : Measures 5 array-kinds.ps ℕ
-μ-array κs a = (suc depthLimit - a .1 .1 .0) * 2 ^ 64 + (a .1 .1 .1 .1 .0 - a .1 .1 .1 .0) + 1
+μ-array κs a = (suc depthLimit - a .1 .1 .0) * 2 ^ 64 + (a .1 .1 .1 .1 .1 .0 - a .1 .1 .1 .1 .0) + 1
 
 abbrev μ-visit : Measures 5 visit-kinds.ps ℕ
-μ-visit κs a = (suc depthLimit - a .1 .1 .0) * 2 ^ 64 + (a .1 .1 .1 .1 .0 - a .1 .1 .1 .0)
+μ-visit κs a = (suc depthLimit - a .1 .1 .0) * 2 ^ 64 + (a .1 .1 .1 .1 .1 .0 - a .1 .1 .1 .1 .0)
 
 abbrev array-at : ℕ → In 5 array-kinds.ps
 array-at t = and 5 array-kinds.ps (is 5 array-kinds.ps μ-array t) array.Pre
@@ -84,14 +84,14 @@ visit-calls t = (
 )
 
 abbrev array-Inv-loop : array-lts.InvT-loop
-array-Inv-loop file targets depth at stop listing₀ table₀ records₀ count p₀ n₀ listing table records p n =
+array-Inv-loop file targets depth parent at stop listing₀ table₀ records₀ count p₀ n₀ listing table records p n =
     (at ≤ p) × (length listing ≡ length listing₀) × (length table ≡ length table₀) × (length records ≡ length records₀)
-    × ((was : Slices) (l : List Entry) (parent : ℕ) (ups : List ℕ) → suc (length ups) ≡ depth
+    × ((was : Slices) (l : List Entry) (ups : List ℕ) → suc (length ups) ≡ depth
     → Holds was l (slices listing₀ table₀ records₀) count → Going file (targetsIn targets) depth at stop was l parent ups (slices listing table records) p
     n)
 
 abbrev array-μ-loop : array-lts.MeasureT-loop
-array-μ-loop file targets depth at stop listing₀ table₀ records₀ count p₀ n₀ listing table records p n =
+array-μ-loop file targets depth parent at stop listing₀ table₀ records₀ count p₀ n₀ listing table records p n =
     stop - p
 
 array-loop-holds : (t : ℕ) → array-lts.Need-loop-holds (array-calls t) (array-at t) array.Post array-Inv-loop array-μ-loop
@@ -102,7 +102,7 @@ array-loop-holds t c =
       refl,
       refl,
       refl,
-      λ was l parent ups d h. going-start file (targetsIn (now (args .targets))) (args .depth) (args .at) (args .stop) was l parent ups _ _ h,
+      λ was l ups d h. going-start file (targetsIn (now (args .targets))) (args .depth) (args .at) (args .stop) was l (args .parent) ups _ _ h,
     )
 
 array-context-rule-requires : (t : ℕ) → array-lts.Need-context-rule-requires (array-calls t) (array-at t) array.Post array-Inv-loop array-μ-loop
@@ -136,8 +136,8 @@ array-returns t c =
     let file = now (args .file) in
     let so = slices (loop .listing) (loop .table) (loop .records) in
     let broken = sym (context-rule .ensures) ∙ not-true (context-rule .result) (if1 .taken) in
-    λ was l parent ups d h. going-10 file (targetsIn (now (args .targets))) (args .depth) (args .at) (args .stop) was l parent ups so (loop .p) (loop .n)
-    (loop-test .taken) (loop .inv .4 was l parent ups d h) broken
+    λ was l ups d h. going-10 file (targetsIn (now (args .targets))) (args .depth) (args .at) (args .stop) was l (args .parent) ups so (loop .p) (loop .n)
+    (loop-test .taken) (loop .inv .4 was l ups d h) broken
 
 array-visit-requires : (t : ℕ) → array-lts.Need-visit-requires (array-calls t) (array-at t) array.Post array-Inv-loop array-μ-loop
 array-visit-requires t c κs =
@@ -154,19 +154,19 @@ array-same-length-4 : (t : ℕ) → array-lts.Need-same-length-4 (array-calls t)
 array-same-length-4 t c =
     let visit = c .before .before .before .before .before .before .before .visit in
     let loop = c .before .before .before .before .before .before .before .before .before .before .before .before .before .before .loop in
-    visit .kept .1 .1 .1 .1 .1 .0 ∙ loop .inv .1
+    visit .kept .1 .1 .1 .1 .1 .1 .0 ∙ loop .inv .1
 
 array-same-length-5 : (t : ℕ) → array-lts.Need-same-length-5 (array-calls t) (array-at t) array.Post array-Inv-loop array-μ-loop
 array-same-length-5 t c =
     let visit = c .before .before .before .before .before .before .before .visit in
     let loop = c .before .before .before .before .before .before .before .before .before .before .before .before .before .before .loop in
-    visit .kept .1 .1 .1 .1 .1 .1 .0 ∙ loop .inv .2
+    visit .kept .1 .1 .1 .1 .1 .1 .1 .0 ∙ loop .inv .2
 
 array-same-length-6 : (t : ℕ) → array-lts.Need-same-length-6 (array-calls t) (array-at t) array.Post array-Inv-loop array-μ-loop
 array-same-length-6 t c =
     let visit = c .before .before .before .before .before .before .before .visit in
     let loop = c .before .before .before .before .before .before .before .before .before .before .before .before .before .before .loop in
-    visit .kept .1 .1 .1 .1 .1 .1 .1 .0 ∙ loop .inv .3
+    visit .kept .1 .1 .1 .1 .1 .1 .1 .1 .0 ∙ loop .inv .3
 
 array-returns-2 : (t : ℕ) → array-lts.Need-returns-2 (array-calls t) (array-at t) array.Post array-Inv-loop array-μ-loop
 array-returns-2 t c =
@@ -178,9 +178,9 @@ array-returns-2 t c =
     let match = c .match in
     let file = now (args .file) in
     let so = slices (loop .listing) (loop .table) (loop .records) in
-    let after = slices (visit .last .1 .1 .1 .1 .1 .0) (visit .last .1 .1 .1 .1 .1 .1 .0) (visit .last .1 .1 .1 .1 .1 .1 .1 .0) in
-    λ was l parent ups d h. going-stop file (targetsIn (now (args .targets))) (args .depth) (args .at) (args .stop) was l parent ups so (loop .p)
-    (loop .n) (loop-test .taken) (loop .inv .4 was l parent ups d h) d (visit .result) after (visit .ensures) (not-complete (visit .result) (match .keys2))
+    let after = slices (visit .last .1 .1 .1 .1 .1 .1 .0) (visit .last .1 .1 .1 .1 .1 .1 .1 .0) (visit .last .1 .1 .1 .1 .1 .1 .1 .1 .0) in
+    λ was l ups d h. going-stop file (targetsIn (now (args .targets))) (args .depth) (args .at) (args .stop) was l (args .parent) ups so (loop .p)
+    (loop .n) (loop-test .taken) (loop .inv .4 was l ups d h) d (visit .result) after (visit .ensures) (not-complete (visit .result) (match .keys2))
 
 array-extent-requires : (t : ℕ) → array-lts.Need-extent-requires (array-calls t) (array-at t) array.Post array-Inv-loop array-μ-loop
 array-extent-requires t c κs =
@@ -241,13 +241,13 @@ array-loop-again t c =
     let walked = c .before .before .walked in
     let file = now (args .file) in
     let so = slices (loop .listing) (loop .table) (loop .records) in
-    let after = slices (visit .last .1 .1 .1 .1 .1 .0) (visit .last .1 .1 .1 .1 .1 .1 .0) (visit .last .1 .1 .1 .1 .1 .1 .1 .0) in (
+    let after = slices (visit .last .1 .1 .1 .1 .1 .1 .0) (visit .last .1 .1 .1 .1 .1 .1 .1 .0) (visit .last .1 .1 .1 .1 .1 .1 .1 .1 .0) in (
       omega (arith, loop .inv .0),
-      visit .kept .1 .1 .1 .1 .1 .0 ∙ loop .inv .1,
-      visit .kept .1 .1 .1 .1 .1 .1 .0 ∙ loop .inv .2,
-      visit .kept .1 .1 .1 .1 .1 .1 .1 .0 ∙ loop .inv .3,
-      λ was l parent ups d h. going-next file (targetsIn (now (args .targets))) (args .depth) (args .at) (args .stop) was l parent ups so (loop .p)
-          (loop .n) (loop-test .taken) (loop .inv .4 was l parent ups d h) d (visit .result) after (visit .ensures) (extent .result) (walked .given .0 .0) (walked .given .1)
+      visit .kept .1 .1 .1 .1 .1 .1 .0 ∙ loop .inv .1,
+      visit .kept .1 .1 .1 .1 .1 .1 .1 .0 ∙ loop .inv .2,
+      visit .kept .1 .1 .1 .1 .1 .1 .1 .1 .0 ∙ loop .inv .3,
+      λ was l ups d h. going-next file (targetsIn (now (args .targets))) (args .depth) (args .at) (args .stop) was l (args .parent) ups so (loop .p)
+          (loop .n) (loop-test .taken) (loop .inv .4 was l ups d h) d (visit .result) after (visit .ensures) (extent .result) (walked .given .0 .0) (walked .given .1)
           (extent .ensures),
     )
 
@@ -273,8 +273,8 @@ array-returns-3 t c =
     let loop-test = c .loop-test in
     let file = now (args .file) in
     let so = slices (loop .listing) (loop .table) (loop .records) in
-    λ was l parent ups d h. going-end file (targetsIn (now (args .targets))) (args .depth) (args .at) (args .stop) was l parent ups so (loop .p) (loop .n)
-    (loop-test .left) (loop .inv .4 was l parent ups d h)
+    λ was l ups d h. going-end file (targetsIn (now (args .targets))) (args .depth) (args .at) (args .stop) was l (args .parent) ups so (loop .p) (loop .n)
+    (loop-test .left) (loop .inv .4 was l ups d h)
 
 visit-visit-check-requires : (t : ℕ) → visit-lts.Need-visit-check-requires (visit-calls t) (visit-at t) visit.Post
 visit-visit-check-requires t c κs =
@@ -291,7 +291,7 @@ visit-returns t c =
     let file = now (args .file) in
     let t0 = targetsIn (now (args .targets)) in
     let s = slices (now (args .listing)) (now (args .table)) (now (args .records)) in
-    does-refused file t0 (args .depth) (args .p) (args .stop) (args .n) s (pre .1 .1)
+    does-refused file t0 (args .depth) (args .parent) (args .p) (args .stop) (args .n) s (pre .1 .1)
     (visit-check .result) (check .given .0 .0) (visit-check .ensures) (check .given .1)
 
 visit-returns-2 : (t : ℕ) → visit-lts.Need-returns-2 (visit-calls t) (visit-at t) visit.Post
@@ -304,7 +304,7 @@ visit-returns-2 t c =
     let file = now (args .file) in
     let t0 = targetsIn (now (args .targets)) in
     let s = slices (now (args .listing)) (now (args .table)) (now (args .records)) in
-    does-cut file t0 (args .depth) (args .p) (args .stop) (args .n) s (pre .1 .1)
+    does-cut file t0 (args .depth) (args .parent) (args .p) (args .stop) (args .n) s (pre .1 .1)
     (visit-check .result) (visit-check .ensures) (enum-told .given .1) (if1 .taken)
 
 visit-add-load-u32 : (t : ℕ) → visit-lts.Need-add-load-u32 (visit-calls t) (visit-at t) visit.Post
@@ -354,8 +354,8 @@ visit-load-u64-requires t c κs =
     let ended = ends (now (args .file)) (args .p) (args .stop) (pre .1 .1) in
     omega (arith, ended, pre .1 .2)
 
-visit-add-t27 : (t : ℕ) → visit-lts.Need-add-t27 (visit-calls t) (visit-at t) visit.Post
-visit-add-t27 t c =
+visit-add-t28 : (t : ℕ) → visit-lts.Need-add-t28 (visit-calls t) (visit-at t) visit.Post
+visit-add-t28 t c =
     let if1 = c .before .before .before .before .before .before .before .if1 in
     let good = c .before .before .before .before .before .before .before .before .before .before .before .before .before .before .before .before .good
     in
@@ -379,9 +379,9 @@ visit-returns-3 t c =
     let s = slices (now (args .listing)) (now (args .table)) (now (args .records)) in
     let id = id-read file (args .p) (load-u32 .result) (load-u32 .ensures) in
     let size = bytes-read file (args .p) (load-u64 .result) (load-u64 .ensures) in
-    does-leaf file t0 (args .depth) (args .p) (args .stop) (args .n) s (pre .1 .1)
+    does-leaf file t0 (args .depth) (args .parent) (args .p) (args .stop) (args .n) s (pre .1 .1)
     (visit-check .result) (visit-check .ensures) (enum-told .given .1)
-    (put-record .last .1 .1 .1 .0) (put-record .ensures) (load-u32 .result) (field file (args .p) childrenPlace) (load-u64 .result)
+    (put-record .last .1 .1 .1 .1 .0) (put-record .ensures) (load-u32 .result) (field file (args .p) childrenPlace) (load-u64 .result)
     id refl size (omega (arith, if1 .left)) (pre .1 .0) (if2 .taken)
 
 visit-add-load-u64 : (t : ℕ) → visit-lts.Need-add-load-u64 (visit-calls t) (visit-at t) visit.Post
@@ -476,7 +476,7 @@ visit-same-length-6 t c =
     let array = c .before .before .before .before .before .before .array in
     let args = c .before .before .before .before .before .before .before .before .before .before .before .before .before .before .before .before
     .before .before .before .before .before .before .before .before .before .before .before .args in
-    array .kept .1 .1 .1 .1 .1 .0 ∙ length-set (now (args .listing)) (args .n) (args .p)
+    array .kept .1 .1 .1 .1 .1 .1 .0 ∙ length-set (now (args .listing)) (args .n) (args .p)
 
 visit-same-length-7 : (t : ℕ) → visit-lts.Need-same-length-7 (visit-calls t) (visit-at t) visit.Post
 visit-same-length-7 t c =
@@ -485,7 +485,7 @@ visit-same-length-7 t c =
     .before .before .before .before .before .before .before .before .before .before .before .args in
     let load-u32 = c .before .before .before .before .before .before .before .before .before .before .before .before .before .before .before .before
     .before .load-u32 in
-    array .kept .1 .1 .1 .1 .1 .1 .0 ∙ length-set (now (args .table)) (load-u32 .result) (args .p)
+    array .kept .1 .1 .1 .1 .1 .1 .1 .0 ∙ length-set (now (args .table)) (load-u32 .result) (args .p)
 
 visit-returns-4 : (t : ℕ) → visit-lts.Need-returns-4 (visit-calls t) (visit-at t) visit.Post
 visit-returns-4 t c =
@@ -512,10 +512,10 @@ visit-returns-4 t c =
     let id = id-read file (args .p) (load-u32 .result) (load-u32 .ensures) in
     let size = bytes-read file (args .p) (load-u64 .result) (load-u64 .ensures) in
     let place = place-read file (args .p) (load-u642 .result) (load-u642 .ensures) in
-    let after = slices (array .last .1 .1 .1 .1 .1 .0) (array .last .1 .1 .1 .1 .1 .1 .0) (array .last .1 .1 .1 .1 .1 .1 .1 .0) in
-    does-deep file t0 (args .depth) (args .p) (args .stop) (args .n) s (pre .1 .1)
+    let after = slices (array .last .1 .1 .1 .1 .1 .1 .0) (array .last .1 .1 .1 .1 .1 .1 .1 .0) (array .last .1 .1 .1 .1 .1 .1 .1 .1 .0) in
+    does-deep file t0 (args .depth) (args .parent) (args .p) (args .stop) (args .n) s (pre .1 .1)
     (visit-check .result) (visit-check .ensures) (enum-told .given .1)
-    (put-record .last .1 .1 .1 .0) (put-record .ensures) (load-u32 .result) (load-u642 .result) (load-u64 .result)
+    (put-record .last .1 .1 .1 .1 .0) (put-record .ensures) (load-u32 .result) (load-u642 .result) (load-u64 .result)
     id place size (omega (arith, if1 .left)) (pre .1 .0) (array .result) after (array .ensures)
 
 pub +array+visit-spec : {M : Type 1} → statement M
@@ -563,7 +563,7 @@ pub +array+visit-spec : {M : Type 1} → statement M
     (visit-slice-write-table t)
     (visit-put-record-requires t)
     (visit-load-u64-requires t)
-    (visit-add-t27 t)
+    (visit-add-t28 t)
     (λ c. search needs)
     (λ c. search needs)
     (λ c. search needs)

@@ -68,7 +68,7 @@ returns-2 c =
     from-roots (now (args .file)) pre (targetsIn (targets-of .result))
     (targets-of .ensures) (u64-at2 .result) (u64-at .result) (u64-at2 .ensures) (u64-at .ensures)
     (now (args .listing)) (now (args .table)) (now (args .records)) (clear .last .0) (clear .ensures) (array .result)
-    (array .last .1 .1 .1 .1 .1 .0) (array .last .1 .1 .1 .1 .1 .1 .0) (array .last .1 .1 .1 .1 .1 .1 .1 .0) (array .ensures)
+    (array .last .1 .1 .1 .1 .1 .1 .0) (array .last .1 .1 .1 .1 .1 .1 .1 .0) (array .last .1 .1 .1 .1 .1 .1 .1 .1 .0) (array .ensures)
 
 pub walk-in-spec : {M : Type 1} → statement M
 walk-in-spec =

@@ -13,8 +13,9 @@ const HEAD_SIZE: usize = 24;
 /// Contexts lie at depth 1 to 200. A visit at 201 is still made: 10, 9 and 7 come before 12.
 const DEEPEST: usize = 200;
 
-/// Words of a record: place, depth, ctxId, relation, lexicalType, flags mod 8, function, file, line, module, offset.
-pub const RECORD_WORDS: usize = 11;
+/// Words of a record: place, depth, ctxId, relation, lexicalType, flags mod 8, function, file, line, module, offset,
+/// the parent's place or 0.
+pub const RECORD_WORDS: usize = 12;
 
 #[derive(Clone, Copy, PartialEq, Eq, Debug)]
 pub enum End {
@@ -42,19 +43,19 @@ pub fn records(file: &[u8], listing: &mut [u64], table: &mut [u64], records: &mu
 
 /// What is kept of a listed context beyond its place.
 trait Keep {
-    fn keep(&mut self, place: usize, depth: usize, context: &Context);
+    fn keep(&mut self, place: usize, depth: usize, parent: usize, context: &Context);
 }
 
 struct NoRecords;
 
 impl Keep for NoRecords {
-    fn keep(&mut self, _: usize, _: usize, _: &Context) {}
+    fn keep(&mut self, _: usize, _: usize, _: usize, _: &Context) {}
 }
 
 struct Records<'a>(slice::IterMut<'a, [u64; RECORD_WORDS]>);
 
 impl Keep for Records<'_> {
-    fn keep(&mut self, place: usize, depth: usize, context: &Context) {
+    fn keep(&mut self, place: usize, depth: usize, parent: usize, context: &Context) {
         if let Some(record) = self.0.next() {
             let Flex { function, file, line, module, offset } = context.flex;
             *record = [
@@ -69,6 +70,7 @@ impl Keep for Records<'_> {
                 line,
                 module,
                 offset,
+                parent as u64,
             ];
         }
     }
@@ -102,7 +104,7 @@ fn follow(trail: &mut Trail, listing: &mut [u64], table: &mut [u64], kept: &mut 
         };
         *word = visited.place as u64;
         *visited.slot = visited.place as u64;
-        kept.keep(visited.place, visited.depth, &visited.context);
+        kept.keep(visited.place, visited.depth, visited.parent, &visited.context);
         listed += 1;
     };
     Walked { end, listed }
@@ -113,6 +115,8 @@ struct Trail<'m> {
     meta: &'m Meta<'m>,
     /// of the arrays from the roots to the current one, what is yet to be visited
     rest: [Span; DEEPEST + 1],
+    /// and of which context they are the children; 0 for the roots
+    parents: [usize; DEEPEST + 1],
     level: usize,
 }
 
@@ -120,6 +124,7 @@ struct Trail<'m> {
 struct Visited<'t> {
     place: usize,
     depth: usize,
+    parent: usize,
     context: Context,
     slot: &'t mut u64,
 }
@@ -128,7 +133,7 @@ impl<'m> Trail<'m> {
     fn of(meta: &'m Meta<'m>) -> Trail<'m> {
         let mut rest = [Span::default(); DEEPEST + 1];
         rest[0] = meta.roots;
-        Trail { meta, rest, level: 0 }
+        Trail { meta, rest, parents: [0; DEEPEST + 1], level: 0 }
     }
 
     /// Goes on to the next context; there is none if the trail ends whole.
@@ -140,14 +145,15 @@ impl<'m> Trail<'m> {
             }
             self.level -= 1;
         }
-        let (place, depth) = (self.rest[self.level].start, self.level + 1);
+        let (place, depth, parent) = (self.rest[self.level].start, self.level + 1, self.parents[self.level]);
         let (context, slot) = visit(self.meta, self.rest[self.level], depth, table)?;
         self.rest[self.level].start += context.size;
         if context.children.size() > 0 {
             self.level += 1;
             self.rest[self.level] = context.children;
+            self.parents[self.level] = place;
         }
-        Ok(Some(Visited { place, depth, context, slot }))
+        Ok(Some(Visited { place, depth, parent, context, slot }))
     }
 }
 
@@ -207,8 +213,8 @@ struct RecordsAndPath<'a> {
 }
 
 impl Keep for RecordsAndPath<'_> {
-    fn keep(&mut self, place: usize, depth: usize, context: &Context) {
-        self.records.keep(place, depth, context);
+    fn keep(&mut self, place: usize, depth: usize, parent: usize, context: &Context) {
+        self.records.keep(place, depth, parent, context);
         self.path.step(depth);
     }
 }
