@@ -225,7 +225,7 @@ uint32_t hpcdb_meta_records(const uint8_t *file, size_t file_length, uint64_t *l
  * and new_mark is then not looked at; any other number asks for one. A new mark names the last context listed; if none is, it is the mark
  * that was given (that of depth 0 if none was). A mark may be kept as long as the file is the same, and given with a listing and a table
  * of other lengths. It has no trace of its file: with another one the walk goes on from whatever context has those numbers there, or MARK.
- * The parent in a record is the one that it has without a mark, listed or not.
+ * A context's parent in its record is the same as without a mark, whether that parent is listed or not.
  *
  * The bytes of a mark: u16 length, of the whole mark; u16 kind, 1; u8 depth, at most 200; then for each level, from the root down to the
  * context, a u32: its number among its siblings, from 0. All are little-endian, and the length is 5 + 4 depth. Depth 0 (05 00 01 00 00)
@@ -250,8 +250,9 @@ uint32_t hpcdb_meta_records(const uint8_t *file, size_t file_length, uint64_t *l
  * with n of 0 is opening's where the table is as it was.
  *
  * Parts joined are one walk: the listings of walks, each from the mark that the one before it handed out, are together the listing of one
- * walk with as much room as they have together and a table of the same length, and so are their records; its code, table and new mark are
- * those of the last (where each has HPCDB_MARK_ROOM bytes for the mark it is asked for):
+ * walk with as much room as they have together and a table of the same length, and so are their records, where each has room for
+ * those of all that it lists; its code, table and new mark are those of the last (where each has HPCDB_MARK_ROOM bytes for the mark it is
+ * asked for):
  *   mark_length = 0;
  *   do {
  *       code = hpcdb_meta_walk_from(file, file_length, mark, mark_length, 1, listing, n, table, m, NULL, 0, new_mark,

@@ -72,9 +72,9 @@ static const uint64_t records_of_w[4][HPCDB_RECORD_WORDS] = {
     {240, 1, 4, 1, 0, 0, 0, 0, 0, 0, 0, 0}};
 
 /* Of so many words: n records of W from `first` on, and behind them every word as it was. */
-static void expect_records(const char *what, const uint64_t *words, size_t length, const uint64_t (*first)[HPCDB_RECORD_WORDS], size_t n)
+static void expect_records(const char *what, const uint64_t *words, size_t count, const uint64_t (*first)[HPCDB_RECORD_WORDS], size_t n)
 {
-    for (size_t i = 0; i < length; i++) {
+    for (size_t i = 0; i < count; i++) {
         size_t record = i / HPCDB_RECORD_WORDS;
         expect(what, words[i], record < n ? first[record][i % HPCDB_RECORD_WORDS] : 0xa5a5a5a5a5a5a5a5);
     }
@@ -274,9 +274,18 @@ static void parents(void)
     uint64_t listing[7], table[8], records[7 * HPCDB_RECORD_WORDS], out[1];
     load("crates/walk_cases/data/parents.db");
     expect("whole", hpcdb_meta_records(file, length, listing, 7, table, 8, records, 7 * HPCDB_RECORD_WORDS, out), HPCDB_OK);
+    expect("listed", out[0], 7);
     for (int i = 0; i < 7; i++) {
         expect("a place", records[i * HPCDB_RECORD_WORDS + HPCDB_RECORD_PLACE], want[i][0]);
         expect("its parent", records[i * HPCDB_RECORD_WORDS + HPCDB_RECORD_PARENT], want[i][1]);
+    }
+    /* on from the context at 744, which is three levels below the root */
+    static const uint8_t mark[21] = {21, 0, 1, 0, 4};
+    expect("on", hpcdb_meta_walk_from(file, length, mark, 21, 0, listing, 7, table, 8, records, 7 * HPCDB_RECORD_WORDS, NULL, 0, out), HPCDB_OK);
+    expect("listed after it", out[0], 3);
+    for (int i = 0; i < 3; i++) {
+        expect("a place after it", records[i * HPCDB_RECORD_WORDS + HPCDB_RECORD_PLACE], want[4 + i][0]);
+        expect("its parent, which is not listed", records[i * HPCDB_RECORD_WORDS + HPCDB_RECORD_PARENT], want[4 + i][1]);
     }
 }
 

@@ -55,17 +55,17 @@ def handed_on(file, mark, slots, rooms):
     return listed, records, end, table, given
 
 
-def recorded(file, mark, room, words):
+def recorded(file, mark, room, lent):
     """So many words lent for records, as a walk leaves them."""
-    rows = [BEFORE] * words
+    rows = [BEFORE] * lent
     walk_from(file, mark_of(mark), False, [BEFORE] * room, [BEFORE] * 1024, rows, bytearray())
     return rows
 
 
-def with_records(records, words):
+def with_records(records, lent):
     """So many words that have these records, as far as there is room for whole ones."""
-    whole = sum(records[:words // RECORD], [])
-    return whole + [BEFORE] * (words - len(whole))
+    whole = sum(records[:lent // RECORD], [])
+    return whole + [BEFORE] * (lent - len(whole))
 
 
 # ---- 1. W: A (216, id 1) at 0, C (264, 2) at 0 0, D (288, 3) at 0 1, B (240, 4) at 1
@@ -205,7 +205,7 @@ case("tree-backwards", backwards, (TEN[3], 2, 11, "cut 2", TEN[5]), (TEN[8], 2, 
 damaged_at_8 = edited(f, ident(P[8], 3))
 case("tree-14-cousin", damaged_at_8, (TEN[6], 9, 11, "refused 14 0", TEN[6]), (TEN[5], 9, 11, "refused 14 1", TEN[6]), (TEN[7], 9, 11, "refused 14 0", CLEARED),
      (TEN[8], 9, 11, "refused 14 0", CLEARED), (TEN[9], 9, 11, "refused 14 0", CLEARED))
-# behind 2, and behind all below it: the parents of 5 and 6 come before the mark
+# behind 2; behind 4, the last below 3; behind 5, the last below 2: the parents of 5 and 6 come before the mark
 g, Q = seven()
 case("parents", g, ([0, 0], 5, 8, "whole 5", [1], {"records": 60}), ([0, 0, 0, 0], 3, 8, "whole 3", [1], {"records": 36}),
      ([0, 0, 1], 1, 8, "cut 1", [0, 1], {"records": 12}))

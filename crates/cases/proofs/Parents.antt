@@ -8,7 +8,7 @@ use Rattle.cases.specs.W.{w}
 
 -- a record of W, whose contexts have no flex
 abbrev shown : (place depth ctxId relation lexicalType parent : ℕ) → List ℕ
-shown place depth id relation type parent = place ∷ depth ∷ id ∷ relation ∷ type ∷ 0 ∷ 0 ∷ 0 ∷ 0 ∷ 0 ∷ 0 ∷ parent ∷ []
+shown place depth ctxId relation lexicalType parent = place ∷ depth ∷ ctxId ∷ relation ∷ lexicalType ∷ 0 ∷ 0 ∷ 0 ∷ 0 ∷ 0 ∷ 0 ∷ parent ∷ []
 
 abbrev ofA : List ℕ
 ofA = shown 216 1 1 1 0 0

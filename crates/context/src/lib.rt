@@ -26,8 +26,10 @@ const FLEX_WORDS: usize = 23;
 
 const FLEX: usize = 24;
 
-// How many words a record has.
+// How many words a record has; the last is the parent's place.
 pub const RECORD: usize = 12;
+
+pub const PARENT: usize = 11;
 
 // What the pointers of contexts may lead to, in words: place and size of the Context section; then place, count and stride of the
 // functions, files and modules.

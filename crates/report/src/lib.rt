@@ -4,6 +4,7 @@ ghost use mathlib.Core.Path.{_≡_};
 ghost use lib.Dec.{ltb};
 ghost use lib.ListN.{length};
 ghost use Rattle.traversal.specs.Walk.{numberListed, slices, Leaves};
+use context::PARENT;
 use context::RECORD;
 use libc::STDOUT_FILENO;
 use traversal::Walked;
@@ -35,7 +36,7 @@ fn context(records: &[u64], i: usize) {
     spaced(records[at + 2]);
     spaced(records[at + 4]);
     spaced(records[at + 3]);
-    spaced(records[at + 11]);
+    spaced(records[at + PARENT]);
     newline();
 }
 

@@ -42,7 +42,7 @@ abbrev pub endBelow : List ℕ → (stop : ℕ) (way : List ℕ) (up : ℕ) → 
 endBelow file stop way zero = stop
 endBelow file stop way (suc d) = childrenEnd file (getD way (suc d) 0)
 
--- the place of the context whose children stand there; the roots are no context's
+-- the parent of the contexts in that array, by its place; 0 for the roots
 abbrev pub parentBelow : (way : List ℕ) (up : ℕ) → ℕ
 parentBelow way zero = 0
 parentBelow way (suc d) = getD way (suc d) 0

@@ -1,5 +1,5 @@
-// Walks, from a mark on or from the first root: a loop that keeps its way down in words, by which it comes back up, and by which the mark
-// of the last context listed is written. What is counted on the way are the marks passed from the given one on, itself among them, so
+// Walks, from a mark on or from the first root: a loop that keeps its way down in words, by which it comes back up, and which gives a
+// record its parent and the new mark its numbers. What is counted on the way are the marks passed from the given one on, itself among them, so
 // that 0 says that it is not passed yet; the numbers in the answers of `visit_answer`, `contexts` and `walk_in` are these.
 ghost use mathlib.Core.Bool.{true, _||_, not};
 ghost use mathlib.Core.List.{[]};

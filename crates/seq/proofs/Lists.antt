@@ -1,13 +1,13 @@
 -- Facts of all elements of a list, and of every two, put together and taken apart; what is in a list, and where.
 use Prim.Native.Nat.{ℕ, zero, suc, _<_}
-use mathlib.Core.List.{List, [], _∷_, _++_, append-assoc}
+use mathlib.Core.List.{List, [], _∷_, _++_, map, map-append, append-assoc}
 use mathlib.Core.Logic.{_⊎_, inl, inr}
 use mathlib.Core.Path.{_≡_, refl, sym, ap, _∙_, subst}
 use native.Mathlib.Nat.{le-of-suc-le-suc, not-suc-le-zero}
 use native.Mathlib.Omega.{arith}
-use lib.ListN.{length, getD, take, drop, length-append}
+use lib.ListN.{length, getD, take, drop, length-append, take-append-drop}
 use lib.Seq.{getD-append-seam}
-use Rattle.seq.specs.Lists.{All, In, Ordered}
+use Rattle.seq.specs.Lists.{All, In, Ordered, Differs, Distinct}
 
 module _ {A : Type 0} where
   pub all-imp : {P Q : A → Type 0} → ((x : A) → P x → Q x) → (l : List A) → All P l → All Q l
@@ -94,7 +94,19 @@ module _ {A : Type 0} where
       go (inl e) r = inl (subst (λ (z : A). In x (z ∷ l)) e (in-first x l))
       go (inr j) r = rest (r j)
 
+  pub in-take : {x : A} (n : ℕ) (l : List A) → In x (take n l) → In x l
+  in-take {x} n l h = subst (In x) (take-append-drop n l) (in-left (take n l) (drop n l) h)
+
+  pub in-drop : {x : A} (n : ℕ) (l : List A) → In x (drop n l) → In x l
+  in-drop {x} n l h = subst (In x) (take-append-drop n l) (in-right (take n l) (drop n l) h)
+
   -- ---- by position
+
+  pub in-at : (i : ℕ) (l : List A) → i < length l → (x : A) × (h : In x l) × (i ≡ length (h .0))
+  unfolding in-first in-rest
+  in-at i [] h = absurd (not-suc-le-zero h)
+  in-at zero (x ∷ l) h = (x, in-first x l, refl)
+  in-at (suc i) (y ∷ l) h = let r = in-at i l (le-of-suc-le-suc h) in (r .0, in-rest y (r .1), ap suc (r .2))
 
   pub nth-in : (d : A) (l : List A) (k : ℕ) → k < length l → In (getD l k d) l
   nth-in d [] k h = absurd (not-suc-le-zero h)
@@ -113,3 +125,23 @@ module _ {A : Type 0} where
   ordered-nth R d (x ∷ l) h zero (suc k) m n = all-in (R x) l (h .0) (nth-in d l k (le-of-suc-le-suc n))
   ordered-nth R d (x ∷ l) h (suc j) zero m n = absurd (omega arith)
   ordered-nth R d (x ∷ l) h (suc j) (suc k) m n = ordered-nth R d l (h .1) j k (le-of-suc-le-suc m) (le-of-suc-le-suc n)
+
+-- ---- by what each is mapped to
+
+module _ {A B : Type 0} (f : A → B) where
+  in-map : {x : A} (l : List A) → In x l → In (f x) (map f l)
+  in-map {x} l h = (map f (h .0), map f (h .1), ap (map f) (h .2) ∙ map-append f (h .0) (x ∷ h .1))
+
+  -- where no two are mapped to the same, what they are mapped to tells them
+  pub distinct-one : (l : List A) → Distinct (map f l) → (x y : A) → In x l → In y l → f x ≡ f y → x ≡ y
+  distinct-one [] k x y hx hy s = absurd (in-none hx)
+  distinct-one (z ∷ l) k x y hx hy s = go (in-cases hx) (in-cases hy) (λ a b. distinct-one l (k .1) x y a b s)
+    where
+      apart : (w : A) → In w l → f z ≡ f w → ⊥
+      apart w h = all-in (Differs (f z)) (map f l) (k .0) (in-map l h)
+
+      go : (x ≡ z) ⊎ In x l → (y ≡ z) ⊎ In y l → (In x l → In y l → x ≡ y) → x ≡ y
+      go (inl a) (inl b) later = a ∙ sym b
+      go (inl a) (inr b) later = absurd (apart y b (ap f (sym a) ∙ s))
+      go (inr a) (inl b) later = absurd (apart x a (ap f (sym b) ∙ sym s))
+      go (inr a) (inr b) later = later a b

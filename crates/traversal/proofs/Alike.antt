@@ -5,7 +5,7 @@ use mathlib.Core.Bool.{Bool, true, false}
 use mathlib.Core.List.{List, [], _∷_, _++_}
 use lib.Dec.{ltb}
 use Rattle.open.specs.Opening.{field}
-use Rattle.context.specs.Context.{Targets, childrenPlace, childrenBytes, extent}
+use Rattle.context.specs.Context.{Targets, childrenPlace, childrenEnd, extent}
 use Rattle.context.specs.Entry.{Entry, entryAt}
 use Rattle.traversal.specs.Traversal.{Lengths, Marks, ask, Outcome, on, Parameters, parameters, visitCheck, enter, visit, bind, turn, siblings, level}
 use Rattle.traversal.proofs.Grows.{Grows, grows-siblings, grows-level}
@@ -43,7 +43,7 @@ module _ (file : List ℕ) (m m' : Marks) (t : Targets) (n n' : Lengths) (free f
       unfolding visit
       alike-visit parent path p stop l h =
           let from = field file p childrenPlace in
-          let to = field file p childrenPlace + field file p childrenBytes in
+          let to = childrenEnd file p in
           a .entered path p stop l (entryAt file parent path p) (level left levels p path from to) (level right levels p path from to)
           (grows-level left levels p path from to) (grows-level right levels p path from to) h (below p path from to)
 

@@ -1,11 +1,12 @@
--- Lists that begin with another.
+-- Lists that begin with another, and lists that agree as far as both go.
 use Prim.Native.Nat.{ℕ, _+_, _-_, _≤_}
 use mathlib.Core.List.{List, [], _∷_, _++_, append-assoc, append-nil}
-use mathlib.Core.Path.{_≡_, refl, sym, ap, _∙_}
+use mathlib.Core.Path.{_≡_, refl, sym, ap, _∙_, subst}
+use native.Mathlib.Decide.{decLe}
 use native.Mathlib.Omega.{arith}
-use lib.ListN.{length, take, drop, length-append, take-append-drop}
-use lib.Seq.{take-at, take-append-le, take-append-add}
-use Rattle.traversal.specs.Demand3.{Begins}
+use lib.ListN.{length, take, drop, length-append, length-take, take-append-drop, drop-of-length-le}
+use lib.Seq.{take-all, take-length, take-append-le, drop-append-le, take-append-add, take-at, drop-at}
+use Rattle.traversal.specs.Demand3.{Begins, Agree}
 
 module _ {A : Type 0} where
   pub begins-refl : (a : List A) → Begins a a
@@ -39,3 +40,28 @@ module _ {A : Type 0} where
     ap (take n) (g .1) ∙ ap (λ (m : ℕ). take m (a ++ g .0)) (let e : n ≡ length a + (n - length a) = omega arith in e)
         ∙ take-append-add a (g .0) (n - length a),
   )
+
+  pub begins-taken : (m n : ℕ) (a b : List A) → Begins a b → m ≤ n → Begins (take m a) (take n b)
+  begins-taken m n a b h k =
+      begins-cut n (take m a) b (begins-trans (take m a) a b (begins-take m a) h) (omega (arith, length-take m a))
+
+  begins-drop : (n : ℕ) (a b : List A) → Begins a b → Begins (drop n a) (drop n b)
+  begins-drop n a b h = elim (decLe n (length a)) [
+    | yes e ↦ (h .0, ap (drop n) (h .1) ∙ drop-append-le n a (h .0) e)
+    | no e ↦ (drop n b, ap (λ (x : List A). x ++ drop n b) (sym (drop-of-length-le a {i = n} (omega arith))))
+  ]
+
+  -- two beginnings of one list
+  pub both-begin : (a b c : List A) → Begins a c → Begins b c → Agree a b
+  both-begin a b c g h = elim (decLe (length a) (length b)) [
+    | yes e ↦ sym (take-begins (length a) b c h e) ∙ take-begins (length a) a c g (omega arith) ∙ take-length a ∙ sym (take-all (length b) a e)
+    | no e ↦ take-all (length a) b (omega arith) ∙ sym (take-length b) ∙ sym (take-begins (length b) b c h (omega arith))
+        ∙ take-begins (length b) a c g (omega arith)
+  ]
+
+  -- what follows x in a beginning of x y z, and a beginning of y
+  pub left-agrees : (n m k : ℕ) (x y z : List A) → length x ≡ n → Agree (drop n (take m (x ++ (y ++ z)))) (take k y)
+  left-agrees n m k x y z e =
+      both-begin (drop n (take m (x ++ (y ++ z)))) (take k y) (drop n (x ++ (y ++ z)))
+      (begins-drop n (take m (x ++ (y ++ z))) (x ++ (y ++ z)) (begins-take m (x ++ (y ++ z))))
+      (subst (Begins (take k y)) (sym (drop-at x (y ++ z) n e)) (begins-trans (take k y) y (y ++ z) (begins-take k y) (z, refl)))

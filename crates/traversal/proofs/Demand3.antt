@@ -9,6 +9,7 @@ use borrow.Author.Tests.{leb-true, leb-false}
 use lib.Dec.{leb}
 use lib.ListN.{length, take, drop, length-take, length-map}
 use lib.Seq.{take-at, drop-at}
+use Rattle.seq.proofs.Lists.{in-at}
 use Rattle.refusal.specs.declared.Refusal.{Refusal}
 use Rattle.refusal.specs.declared.Check.{Check}
 use Rattle.refusal.specs.declared.Check.the-variants as Check
@@ -20,12 +21,12 @@ use Rattle.traversal.specs.declared.Walked.the-variants.{Complete, Trunc
 use Rattle.traversal.specs.Traversal.{Marks, Asked, ask, Outcome, on, cut, refused, listOf, traversal}
 use Rattle.traversal.specs.From.{isPassed, afterMark, upToMark, withList, unpassed, fromMark}
 use Rattle.traversal.specs.Walk.{truncate, walkCheck, givenPath, trailFrom, walkOf, markPassed, reached, walkedOf, numberListed, placeOf, listingWith, tableWith, wordsOf, recordsWith, tableAfter, Slices, LeavesFrom, itself}
-use Rattle.traversal.specs.Demand3.{Call, asked, listedNumber, listedWords, trail, listed, recordRoom, recordNumber, recordWords, HandsOut, Untouched, OneWalk, Final, Begins, TwoWalks, AskedAlike, Demand3}
-use Rattle.traversal.proofs.Begins.{begins-trans, begins-take, take-own}
+use Rattle.traversal.specs.Demand3.{Call, asked, listedNumber, listedWords, trail, listed, recordRoom, recordNumber, recordWords, RecordOf, Untouched, OneWalk, Final, Begins, TwoWalks, AskedAlike, Demand3}
+use Rattle.traversal.proofs.Begins.{begins-trans, begins-take, take-own, begins-taken, both-begin}
 use Rattle.traversal.proofs.Cut.{truncate-short, truncate-long, list-truncate}
 use Rattle.traversal.proofs.Grows.{isCut, never-cut}
 use Rattle.traversal.proofs.Untouched.{refused-untouched}
-use Rattle.traversal.proofs.Records.{words-append, begins-taken, both-begin, stands-at, records-first, records-behind, record-at}
+use Rattle.traversal.proofs.Records.{words-append, length-words, records-first, records-behind, record-at}
 use Rattle.traversal.proofs.Trail.{trail-from-same}
 use Rattle.traversal.proofs.MoreRoom.{entries-begin, entries-same}
 use Rattle.traversal.proofs.Table.{length-table}
@@ -141,18 +142,25 @@ module _ {file : List ℕ} (c : Call file) where
       ap₂ (λ (n : ℕ) (w : List ℕ). take (min n (recordRoom c) * wordsEach) w) (sym listed-length) records-put
       ∙ records-first (c .was .records) (listed c)
 
+  pub words-by-number : recordWords c ≡ take (recordNumber c * wordsEach) (wordsOf (listed c))
+  words-by-number =
+      let all : List ℕ = take (recordRoom c * wordsEach) (wordsOf (listed c)) in
+      let as-many : length all ≡ recordNumber c * wordsEach =
+      omega (arith, length-take (recordRoom c * wordsEach) (wordsOf (listed c)), length-words (listed c), listed-length) in
+      record-words ∙ sym (take-own (recordRoom c * wordsEach) (wordsOf (listed c))) ∙ ap (λ (n : ℕ). take n (wordsOf (listed c))) as-many
+
   behind : drop (recordNumber c * wordsEach) (c .now .records) ≡ drop (recordNumber c * wordsEach) (c .was .records)
   behind =
       ap₂ (λ (n : ℕ) (w : List ℕ). drop (min n (recordRoom c) * wordsEach) w) (sym listed-length) records-put
       ∙ records-behind (c .was .records) (listed c)
       ∙ ap (λ (n : ℕ). drop (min n (recordRoom c) * wordsEach) (c .was .records)) listed-length
 
-  each : (i : ℕ) → i < recordNumber c → (e : Entry) × HandsOut c i e
+  each : (i : ℕ) → i < recordNumber c → (e : Entry) × RecordOf c i e
   each i h =
-      let at = stands-at i (listed c) (omega (arith, listed-length)) in
-      (at .0, record { before = at .1; after = at .2; lists = at .3; number = at .4; room = omega arith })
+      let at = in-at i (listed c) (omega (arith, listed-length)) in
+      (at .0, record { before = at .1 .0; after = at .1 .1; lists = at .1 .2; number = at .2; room = omega arith })
 
-  at-number : (i : ℕ) (e : Entry) → HandsOut c i e → take wordsEach (drop (i * wordsEach) (c .now .records)) ≡ entryWords e
+  at-number : (i : ℕ) (e : Entry) → RecordOf c i e → take wordsEach (drop (i * wordsEach) (c .now .records)) ≡ entryWords e
   at-number i e h =
       ap₂ (λ (n : ℕ) (w : List ℕ). take wordsEach (drop (n * wordsEach) w)) (h .number)
       (records-put ∙ ap (λ (l : List Entry). recordsWith l (c .was .records)) (h .lists))
@@ -278,9 +286,9 @@ module _ {file : List ℕ} (old new : Call file) (alike : AskedAlike old new) (h
     records-begin = λ r. rw (record-words old, record-words new)
         (begins-taken (recordRoom old * wordsEach) (recordRoom new * wordsEach) (wordsOf (listed old)) (wordsOf (listed new)) words-begin (omega arith));
     same-records = λ f e.
-        record-words new
+        words-by-number new
         ∙ ap₂ (λ (n : ℕ) (l : List Entry). take (n * wordsEach) (wordsOf l)) (sym e) (sym (same-listed new) ∙ ap listOf (same f) ∙ same-listed old)
-        ∙ sym (record-words old);
+        ∙ sym (words-by-number old);
     records-agree = rw (record-words old, record-words new)
         (both-begin (take (recordRoom old * wordsEach) (wordsOf (listed old))) (take (recordRoom new * wordsEach) (wordsOf (listed new))) (wordsOf (listed new))
         (begins-trans (take (recordRoom old * wordsEach) (wordsOf (listed old))) (wordsOf (listed old)) (wordsOf (listed new))

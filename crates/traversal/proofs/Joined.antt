@@ -26,10 +26,11 @@ use Rattle.traversal.specs.Walk.{truncate, walkCheck, givenPath, trailFr
 use Rattle.traversal.specs.Walk.{placeOf, listingWith, tableWith, wordsOf, recordsWith, tableAfter, markAfter, Slices, slicesWithMark, askWith}
 use Rattle.traversal.specs.Demand3.{Call, asked, listedNumber, listedWords, listed, recordRoom, recordWords, Agree}
 use Rattle.traversal.specs.Joined.{Roomy, Begun, handed, Follows, Parts, lastPart, joinedRoom, joinedNumber, joinedEntries, joinedRecords, AllRecorded, RecordsFrom, withNumber, AsOne, Joined, GoingOn}
+use Rattle.traversal.proofs.Begins.{left-agrees}
 use Rattle.traversal.proofs.From.{list-with, list-unpassed, from-unpassed}
 use Rattle.traversal.proofs.Trail.{trail-same}
 use Rattle.traversal.proofs.Preorder.{paths-distinct}
-use Rattle.traversal.proofs.Records.{words-append, length-words, left-agrees}
+use Rattle.traversal.proofs.Records.{words-append, length-words}
 use Rattle.traversal.proofs.Join.{walkFrom, pathAfter, new-passed, join-outcome, join-path, walk-from, path-after, new-path-all}
 use Rattle.traversal.proofs.Small.{contexts-encodable}
 use Rattle.traversal.proofs.Demand3.{counted, same-listed, listed-length, record-words, filled, demand3}

@@ -11,7 +11,7 @@ use Rattle.refusal.specs.declared.Check.the-variants.{Passed, Refused}
 use Rattle.refusal.specs.Check.{ifPassed}
 use Rattle.open.specs.Format.{meta}
 use Rattle.open.specs.Opening.{field, opening, pairs, onOpened}
-use Rattle.context.specs.Context.{childrenPlace, childrenBytes, extent, targetsOf}
+use Rattle.context.specs.Context.{childrenPlace, childrenEnd, extent, targetsOf}
 use Rattle.context.specs.Entry.{Entry, entryAt}
 use Rattle.traversal.specs.Traversal.{Asked, Outcome, on, cut, refused, listOf, Parameters, endless, visitCheck, enter, Down, visit, bind, turn, siblings, level, depthLimit, fromRoots, traversal}
 
@@ -71,7 +71,7 @@ module _ (E : Parameters) (I : Fact) (k : Kept E I) where
   keeps-visit down d parent ups i p stop l h =
       let f = E .asked .file in
       keeps-enter (visitCheck E (snoc ups i) p stop l) (E .free l)
-      (down p (snoc ups i) (field f p childrenPlace) (field f p childrenPlace + field f p childrenBytes))
+      (down p (snoc ups i) (field f p childrenPlace) (childrenEnd f p))
       l (entryAt f parent (snoc ups i) p) ups i refl h
       (λ e. d _ _ _ _ _ (k .enters parent ups i p stop l e h))
 

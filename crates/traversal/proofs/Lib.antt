@@ -13,7 +13,7 @@ pub mod Trail
 pub mod MoreRoom
 pub mod Table
 pub mod Ids
-pub mod Lineage
+pub mod ParentOf
 pub mod Filled
 pub mod Preorder
 pub mod Children

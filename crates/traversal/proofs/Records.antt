@@ -1,18 +1,15 @@
--- The words of records, by the contexts that they are of: twelve each, one context after the other; and the records that a call hands out are
--- the words of what it lists, as far as there is room for whole ones.
-use Prim.Native.Nat.{ℕ, zero, suc, _+_, _-_, _*_, _/_, _≤_, _<_, min}
+-- The words of records, by the contexts that they are of: twelve each, one context after the other; and what a slice for records holds
+-- after a walk.
+use Prim.Native.Nat.{ℕ, zero, suc, _+_, _-_, _*_, _/_, _<_, min}
 use mathlib.Core.List.{List, [], _∷_, _++_, append-assoc}
-use mathlib.Core.Path.{_≡_, refl, sym, ap, _∙_, subst}
-use native.Mathlib.Decide.{decLe}
-use native.Mathlib.Nat.{min-comm, not-suc-le-zero}
+use mathlib.Core.Path.{_≡_, refl, sym, ap, _∙_}
+use native.Mathlib.Nat.{min-comm}
 use native.Mathlib.Omega.{arith}
-use lib.ListN.{length, take, drop, length-append, length-take, drop-of-length-le}
-use lib.Seq.{take-all, take-length, take-nil, drop-append-le, take-append-add, take-at, drop-at}
+use lib.ListN.{length, take, drop, length-append, length-take}
+use lib.Seq.{take-nil, take-append-add, take-at, drop-at}
 use Rattle.buffer.proofs.Laws.{over-eq}
 use Rattle.context.specs.Entry.{Entry, entryWords, wordsEach}
 use Rattle.traversal.specs.Walk.{wordsOf, recordsWith}
-use Rattle.traversal.specs.Demand3.{Begins, Agree}
-use Rattle.traversal.proofs.Begins.{begins-trans, begins-take, take-begins, begins-cut}
 
 -- ---- words
 
@@ -34,42 +31,6 @@ words-take (suc n) (e ∷ l) =
     let more : suc n * wordsEach ≡ wordsEach + n * wordsEach = omega arith in
     ap (λ (w : List ℕ). entryWords e ++ w) (words-take n l) ∙ sym (take-append-add (entryWords e) (wordsOf l) (n * wordsEach))
     ∙ ap (λ (k : ℕ). take k (entryWords e ++ wordsOf l)) (sym more)
-
--- ---- beginnings of lists
-
-module _ {A : Type 0} where
-  pub begins-taken : (m n : ℕ) (a b : List A) → Begins a b → m ≤ n → Begins (take m a) (take n b)
-  begins-taken m n a b h k =
-      begins-cut n (take m a) b (begins-trans (take m a) a b (begins-take m a) h) (omega (arith, length-take m a))
-
-  begins-drop : (n : ℕ) (a b : List A) → Begins a b → Begins (drop n a) (drop n b)
-  begins-drop n a b h = elim (decLe n (length a)) [
-    | yes e ↦ (h .0, ap (drop n) (h .1) ∙ drop-append-le n a (h .0) e)
-    | no e ↦ (drop n b, ap (λ (x : List A). x ++ drop n b) (sym (drop-of-length-le a {i = n} (omega arith))))
-  ]
-
-  -- two beginnings of one list
-  pub both-begin : (a b c : List A) → Begins a c → Begins b c → Agree a b
-  both-begin a b c g h = elim (decLe (length a) (length b)) [
-    | yes e ↦ sym (take-begins (length a) b c h e) ∙ take-begins (length a) a c g (omega arith) ∙ take-length a ∙ sym (take-all (length b) a e)
-    | no e ↦ take-all (length a) b (omega arith) ∙ sym (take-length b) ∙ sym (take-begins (length b) b c h (omega arith))
-        ∙ take-begins (length b) a c g (omega arith)
-  ]
-
-  -- what follows x in a beginning of x y z, and a beginning of y
-  pub left-agrees : (n m k : ℕ) (x y z : List A) → length x ≡ n → Agree (drop n (take m (x ++ (y ++ z)))) (take k y)
-  left-agrees n m k x y z e =
-      both-begin (drop n (take m (x ++ (y ++ z)))) (take k y) (drop n (x ++ (y ++ z)))
-      (begins-drop n (take m (x ++ (y ++ z))) (x ++ (y ++ z)) (begins-take m (x ++ (y ++ z))))
-      (subst (Begins (take k y)) (sym (drop-at x (y ++ z) n e)) (begins-trans (take k y) y (y ++ z) (begins-take k y) (z, refl)))
-
-  -- what stands at a number in a list
-  pub stands-at : (i : ℕ) (l : List A) → i < length l → (x : A) × (a : List A) × (b : List A) × (l ≡ a ++ (x ∷ b)) × (i ≡ length a)
-  stands-at i [] h = absurd (not-suc-le-zero h)
-  stands-at zero (x ∷ l) h = (x, [], l, refl, refl)
-  stands-at (suc i) (y ∷ l) h =
-      let r = stands-at i l (omega arith) in
-      (r .0, y ∷ r .1, r .2, ap (_∷_ y) (r .3), ap suc (r .4))
 
 -- ---- a slice for records with those of some contexts
 

@@ -11,7 +11,7 @@ use Rattle.refusal.specs.declared.Refusal.the-variants as No
 use Rattle.refusal.specs.declared.Check.the-variants.{Passed, Refused}
 use Rattle.refusal.specs.Check.{rule, first}
 use Rattle.open.specs.Opening.{field}
-use Rattle.context.specs.Context.{childrenPlace, childrenBytes, extent, contextRule}
+use Rattle.context.specs.Context.{childrenPlace, childrenEnd, extent, contextRule}
 use Rattle.context.specs.Entry.{Entry, entryAt}
 use Rattle.context.proofs.Siblings.{takes-some}
 use Rattle.traversal.specs.Traversal.{Outcome, on, cut, refused, Parameters, visitCheck, enter, Down, visit, bind, turn, siblings, level}
@@ -86,7 +86,7 @@ module _ (E : Parameters) (down : Down) (parent : ℕ) (path : List ℕ) (p stop
   pub visit-on : visitCheck E path p stop l ≡ Passed → E .free l ≡ true
       → visit E down parent path p stop l
       ≡ down p path (field (E .asked .file) p childrenPlace)
-      (field (E .asked .file) p childrenPlace + field (E .asked .file) p childrenBytes) (l ++ (entryAt (E .asked .file) parent path p ∷ []))
+      (childrenEnd (E .asked .file) p) (l ++ (entryAt (E .asked .file) parent path p ∷ []))
   unfolding visit enter
   visit-on e h = rw (e, h)
 

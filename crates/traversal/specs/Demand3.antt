@@ -67,13 +67,13 @@ module _ {file : List ℕ} (c : Call file) where
   abbrev pub recordWords : List ℕ
   recordWords = take (recordNumber * wordsEach) (c .now .records)
 
-  -- record i is handed out, and is that of e
-  pub record HandsOut (i : ℕ) (e : Entry) : Type 0 where
+  -- record n is handed out, and is that of e
+  pub record RecordOf (n : ℕ) (e : Entry) : Type 0 where
     pub before : List Entry
     pub after : List Entry
     pub lists : listed ≡ before ++ (e ∷ after)
-    pub number : i ≡ length before
-    pub room : i < recordRoom
+    pub number : n ≡ length before
+    pub room : n < recordRoom
 
   -- refused, and nothing written
   abbrev pub Untouched : Refusal → Type 0
@@ -102,9 +102,9 @@ pub record OneWalk {file : List ℕ} (c : Call file) : Type 0 where
   -- those passed over, up to the mark given, and those listed; none where the mark was not passed
   pub up-to : markPassed (asked c) ≡ true → reached (asked c) ≡ upToMark (givenPath (asked c)) (listOf (traversal (asked c))) ++ listed c
   pub none : walkCheck (asked c) ≡ Check.Passed → markPassed (asked c) ≡ false → reached (asked c) ≡ []
-  -- "Every context record handed out by a walk": those of the first contexts listed, as many as there is room for whole, word for word
-  pub each-record : (i : ℕ) → i < recordNumber c → (e : Entry) × HandsOut c i e
-  pub record-is : (i : ℕ) (e : Entry) → HandsOut c i e → take wordsEach (drop (i * wordsEach) (c .now .records)) ≡ entryWords e
+  -- "Every context record handed out by a walk": those of the first contexts listed, as many whole ones as there is room for, word for word
+  pub each-record : (n : ℕ) → n < recordNumber c → (e : Entry) × RecordOf c n e
+  pub record-is : (n : ℕ) (e : Entry) → RecordOf c n e → take wordsEach (drop (n * wordsEach) (c .now .records)) ≡ entryWords e
   pub beyond-records : drop (recordNumber c * wordsEach) (c .now .records) ≡ drop (recordNumber c * wordsEach) (c .was .records)
   -- "If opening refuses, 0 are listed and neither slice changes." So it is with the mark rules that stand before the trail.
   pub not-begun : (r : Refusal) → walkCheck (asked c) ≡ Check.Refused r → Untouched c r
@@ -135,9 +135,10 @@ pub record TwoWalks {file : List ℕ} (old new : Call file) : Type 0 where
   -- "the new one has the same list and the same end"
   pub same-list : Final (old .answer) → listedWords new ≡ listedWords old
   pub same-end : Final (old .answer) → new .answer ≡ old .answer
-  -- over their records: with as much room for them too, and else as far as both go
+  -- over their records: with at least as much room for them the old ones begin the new; with as many handed out they are the same where
+  -- the list is; with any room they are the same as far as both go
   pub records-begin : recordRoom old ≤ recordRoom new → Begins (recordWords old) (recordWords new)
-  pub same-records : Final (old .answer) → recordRoom old ≡ recordRoom new → recordWords new ≡ recordWords old
+  pub same-records : Final (old .answer) → recordNumber old ≡ recordNumber new → recordWords new ≡ recordWords old
   pub records-agree : Agree (recordWords old) (recordWords new)
 
 -- "for each mark, .. where both walks ask for a new mark with the same room for it, or neither asks". A mark is what its bytes say: no bytes

@@ -24,8 +24,8 @@ pub record Done (was : Slices) (o : Outcome) (r : Walked) (s : Slices) : Type 0 
   pub holds : Holds was (listOf o) s (length (listOf o))
   pub says : r ≡ walkedOf o
 
--- wherever the slices hold the contexts before it, they hold in the end those of an array too, whose contexts stand at a depth and are
--- a parent's children
+-- wherever the slices hold the contexts before it, they hold in the end those of an array too, whose contexts stand at a depth and have
+-- a parent, 0 for the roots
 abbrev pub ArrayDoes : List ℕ → Targets → (depth parent at stop n : ℕ) → Slices → Walked → Slices → Type 0
 ArrayDoes file t depth parent at stop n s r s' =
     (was : Slices) (l : List Entry) (ups : List ℕ) → suc (length ups) ≡ depth → Holds was l s n

@@ -18,8 +18,8 @@ use refusal::Check;
 use refusal::Refusal;
 use traversal::Walked;
 
-// The contexts from `at` to `stop`, at a depth, with all below them: children of the one at `parent`, or roots, with 0. `count` are listed
-// before.
+// The contexts from `at` to `stop`, at a depth, with all below them: children of the context at `parent`, which is 0 for the roots.
+// `count` are listed before.
 fn array(
     file: &[u8],
     targets: &[u64; TARGETS],

@@ -1,11 +1,9 @@
 // Walks each meta.db that a line of `list` names, with a listing and a table of as many words as the line says, and prints what the
 // listing program prints, the flex fields of the listed contexts that have some, and the table's slots that are not 0.
 ghost use Prim.Native.Nat.{_≤_};
+use context::PARENT;
 use context::RECORD;
 use libc::STDOUT_FILENO;
-
-// Where a record's flex fields end: the word of its parent, which the listing program prints.
-const PARENT: usize = 11;
 
 // What the table holds before a walk.
 const BEFORE: u64 = 7;
@@ -27,7 +25,7 @@ fn room(text: &[u8]) -> usize
     if 1024 < n { 1024 } else { n as usize }
 }
 
-// Place, flags, function, file, line, module and offset of the i-th context.
+// Place, flags, function, file, line, module and offset of the i-th context: the words before its parent.
 fn flex(records: &[u64], i: usize) {
     if records.len() / RECORD <= i {
         return;

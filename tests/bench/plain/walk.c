@@ -1,5 +1,6 @@
 /* The contexts of meta.db in preorder, without recursion: for each level from the roots to the current array, the stack
- * has the part that is yet to be visited, and `parents` the place of the context whose children the array has. */
+ * has the part that is yet to be visited, and `parents` the place of the context whose children it has, 0 for
+ * the roots. */
 #include "meta.h"
 
 #include "plain.h"

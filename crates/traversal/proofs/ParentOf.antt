@@ -31,18 +31,18 @@ use Rattle.traversal.proofs.Keeps.{snoc}
 use Rattle.traversal.proofs.Ids.{passed-fits}
 
 -- one of some contexts: where it stands, and whose child it is
-pub record Born (file : List ℕ) (l : List Entry) (e : Entry) : Type 0 where
+pub record HasParent (file : List ℕ) (l : List Entry) (e : Entry) : Type 0 where
   pub placed : 0 < e .place
   pub deep : e .depth ≡ length (e .path)
   pub some : 0 < e .depth
   pub id : e .ctxId ≡ field file (e .place) ctxId
   pub of : ((e .parent ≡ 0) × (e .depth ≡ 1)) ⊎ ((q : Entry) × ParentAmong file l q e × (e .parent ≡ q .place))
 
-abbrev pub Lineage : List ℕ → List Entry → Type 0
-Lineage file l = All (Born file l) l
+abbrev pub HaveParents : List ℕ → List Entry → Type 0
+HaveParents file l = All (HasParent file l) l
 
 -- an array whose contexts have this parent, below this path
-record Brood (file : List ℕ) (l : List Entry) (parent : ℕ) (ups : List ℕ) (from stop : ℕ) : Type 0 where
+record ChildArray (file : List ℕ) (l : List Entry) (parent : ℕ) (ups : List ℕ) (from stop : ℕ) : Type 0 where
   starts : from < stop → 0 < from
   of : ((parent ≡ 0) × (ups ≡ [])) ⊎ ((q : Entry) × In q l × (parent ≡ q .place) × (ups ≡ q .path) × (from ≡ field file (q .place) childrenPlace)
       × (stop ≡ childrenEnd file (q .place)))
@@ -51,8 +51,8 @@ module _ (file : List ℕ) (l m : List Entry) (h : Begins l m) where
   still-in : {q : Entry} → In q l → In q m
   still-in {q} i = subst (In q) (sym (h .1)) (in-left l (h .0) i)
 
-  born-still : (e : Entry) → Born file l e → Born file m e
-  born-still e b = record {
+  still-has : (e : Entry) → HasParent file l e → HasParent file m e
+  still-has e b = record {
     placed = b .placed;
     deep = b .deep;
     some = b .some;
@@ -60,39 +60,39 @@ module _ (file : List ℕ) (l m : List Entry) (h : Begins l m) where
     of = ⊎-elim inl (λ x. inr (x .0, record { among = still-in (x .1 .among); number = x .1 .number; path = x .1 .path; holds = x .1 .holds }, x .2)) (b .of);
   }
 
-  brood-still : {parent : ℕ} {ups : List ℕ} {from stop : ℕ} → Brood file l parent ups from stop → Brood file m parent ups from stop
-  brood-still b = record {
+  still-array : {parent : ℕ} {ups : List ℕ} {from stop : ℕ} → ChildArray file l parent ups from stop → ChildArray file m parent ups from stop
+  still-array b = record {
     starts = b .starts;
     of = ⊎-elim inl (λ x. inr (x .0, still-in (x .1), x .2, x .3, x .4, x .5)) (b .of);
   }
 
 abbrev Traced : List ℕ → List Entry → Outcome → Type 0
-Traced file l o = Lineage file (listOf o) × Begins l (listOf o)
+Traced file l o = HaveParents file (listOf o) × Begins l (listOf o)
 
 module _ (E : Parameters) where
   abbrev file : List ℕ
   file = E .asked .file
 
   abbrev TracesDown : Down → Type 0
-  TracesDown down = (parent : ℕ) (ups : List ℕ) (from stop : ℕ) (l : List Entry) → Brood file l parent ups from stop → Lineage file l
+  TracesDown down = (parent : ℕ) (ups : List ℕ) (from stop : ℕ) (l : List Entry) → ChildArray file l parent ups from stop → HaveParents file l
       → Traced file l (down parent ups from stop l)
 
   -- a context that is visited
-  module _ (parent : ℕ) (ups : List ℕ) (from stop i p : ℕ) (l : List Entry) (b : Brood file l parent ups from stop) (h : Lineage file l)
+  module _ (parent : ℕ) (ups : List ℕ) (from stop i p : ℕ) (l : List Entry) (b : ChildArray file l parent ups from stop) (h : HaveParents file l)
       (s : p ≡ siblingPlace file from i) (inside : p < stop) (v : visitCheck E (snoc ups i) p stop l ≡ Passed) where
-    abbrev born : Entry
-    born = entryAt file parent (snoc ups i) p
+    abbrev visited : Entry
+    visited = entryAt file parent (snoc ups i) p
 
     abbrev with : List Entry
-    with = snoc l born
+    with = snoc l visited
 
     child : (q : Entry) × In q l × (parent ≡ q .place) × (ups ≡ q .path) × (from ≡ field file (q .place) childrenPlace) × (stop ≡ childrenEnd file (q .place))
-        → (q : Entry) × ParentAmong file with q born × (born .parent ≡ q .place)
+        → (q : Entry) × ParentAmong file with q visited × (visited .parent ≡ q .place)
     unfolding entryAt
     child x = (
       x .0,
       record {
-        among = in-left l (born ∷ []) (x .1);
+        among = in-left l (visited ∷ []) (x .1);
         number = i;
         path = ap (λ (u : List ℕ). snoc u i) (x .3);
         holds = record {
@@ -103,13 +103,13 @@ module _ (E : Parameters) where
       x .2,
     )
 
-    root : (parent ≡ 0) × (ups ≡ []) → (born .parent ≡ 0) × (born .depth ≡ 1)
+    root : (parent ≡ 0) × (ups ≡ []) → (visited .parent ≡ 0) × (visited .depth ≡ 1)
     unfolding entryAt
     root x = (x .0, ap (λ (u : List ℕ). length (snoc u i)) (x .1))
 
-    born-here : Born file with born
+    has-here : HasParent file with visited
     unfolding entryAt
-    born-here = record {
+    has-here = record {
       placed = omega (arith, s, sibling-after file from i, b .starts (omega (arith, s, sibling-after file from i)));
       deep = refl;
       some = omega (arith, length-append ups (i ∷ []));
@@ -117,20 +117,20 @@ module _ (E : Parameters) where
       of = ⊎-elim (λ x. inl (root x)) (λ x. inr (child x)) (b .of);
     }
 
-    lineage-on : Lineage file with
-    lineage-on = all-append (Born file with) l (born ∷ []) (all-imp (born-still file l with (begins-snoc l born)) l h) (born-here, tt)
+    have-with : HaveParents file with
+    have-with = all-append (HasParent file with) l (visited ∷ []) (all-imp (still-has file l with (begins-snoc l visited)) l h) (has-here, tt)
 
-    brood-below : Brood file with p (snoc ups i) (field file p childrenPlace) (childrenEnd file p)
+    array-below : ChildArray file with p (snoc ups i) (field file p childrenPlace) (childrenEnd file p)
     unfolding entryAt childrenRule
-    brood-below =
+    array-below =
         let kept = contexts-iff (E .targets .at) 16 (E .targets .size) (field file p childrenPlace) (field file p childrenBytes) .0
         (passed-fits E (snoc ups i) p stop l v .children) in
         record {
           starts = λ k. omega (arith, kept .after (omega arith));
-          of = inr (born, (l, [], refl), refl, refl, refl, refl);
+          of = inr (visited, (l, [], refl), refl, refl, refl, refl);
         }
 
-  traces-enter : (v : Check) (room : Bool) (into : List Entry → Outcome) (l : List Entry) (e : Entry) → Lineage file l
+  traces-enter : (v : Check) (room : Bool) (into : List Entry → Outcome) (l : List Entry) (e : Entry) → HaveParents file l
       → (v ≡ Passed → Traced file (snoc l e) (into (snoc l e))) → Traced file l (enter v room into l e)
   unfolding enter
   traces-enter Passed true into l e h f = let r = f refl in (r .0, begins-trans l (snoc l e) (listOf (into (snoc l e))) (begins-snoc l e) (r .1))
@@ -138,20 +138,20 @@ module _ (E : Parameters) where
   traces-enter (Refused r) room into l e h f = (h, begins-refl l)
 
   traces-bind : (l : List Entry) (o : Outcome) (next : List Entry → Outcome) → Traced file l o
-      → ((m : List Entry) → Begins l m → Lineage file m → Traced file m (next m)) → Traced file l (bind o next)
+      → ((m : List Entry) → Begins l m → HaveParents file m → Traced file m (next m)) → Traced file l (bind o next)
   unfolding bind
   traces-bind l (on m) next r f = let n = f m (r .1) (r .0) in (n .0, begins-trans l m (listOf (next m)) (r .1) (n .1))
   traces-bind l (cut m) next r f = r
   traces-bind l (refused v m) next r f = r
 
-  traces-turn : (t : Bool) (here next : List Entry → Outcome) (l : List Entry) → Lineage file l → (t ≡ true → Traced file l (here l))
-      → ((m : List Entry) → Begins l m → Lineage file m → Traced file m (next m)) → Traced file l (turn t here next l)
+  traces-turn : (t : Bool) (here next : List Entry → Outcome) (l : List Entry) → HaveParents file l → (t ≡ true → Traced file l (here l))
+      → ((m : List Entry) → Begins l m → HaveParents file m → Traced file m (next m)) → Traced file l (turn t here next l)
   unfolding turn
   traces-turn true here next l h g f = traces-bind l (here l) next (g refl) f
   traces-turn false here next l h g f = (h, begins-refl l)
 
   traces-siblings : (down : Down) → TracesDown down → (parent : ℕ) (ups : List ℕ) (from stop bound i p : ℕ) (l : List Entry)
-      → Brood file l parent ups from stop → Lineage file l → p ≡ siblingPlace file from i
+      → ChildArray file l parent ups from stop → HaveParents file l → p ≡ siblingPlace file from i
       → Traced file l (siblings E down parent ups bound i p stop l)
   unfolding siblings visit
   traces-siblings down d parent ups from stop zero i p l b h s = (h, begins-refl l)
@@ -161,8 +161,8 @@ module _ (E : Parameters) where
       (λ t. traces-enter (visitCheck E (snoc ups i) p stop l) (E .free l) (down p (snoc ups i) (field file p childrenPlace) (childrenEnd file p)) l
       (entryAt file parent (snoc ups i) p) h
       (λ v. d p (snoc ups i) (field file p childrenPlace) (childrenEnd file p) (snoc l (entryAt file parent (snoc ups i) p))
-      (brood-below parent ups from stop i p l b h s (ltb-true p stop t) v) (lineage-on parent ups from stop i p l b h s (ltb-true p stop t) v)))
-      (λ m g k. traces-siblings down d parent ups from stop bound (suc i) (p + extent file p) m (brood-still file l m g b) k
+      (array-below parent ups from stop i p l b h s (ltb-true p stop t) v) (have-with parent ups from stop i p l b h s (ltb-true p stop t) v)))
+      (λ m g k. traces-siblings down d parent ups from stop bound (suc i) (p + extent file p) m (still-array file l m g b) k
       (ap (λ (q : ℕ). q + extent file q) s ∙ sym (sibling-next file from i)))
 
   traces-level : (levels : ℕ) → TracesDown (level E levels)
@@ -172,9 +172,9 @@ module _ (E : Parameters) where
       traces-siblings (level E levels) (traces-level levels) parent ups from stop (stop - from) 0 from l b h (sym (sibling-first file from))
 
 -- of all on a file's trail
-lineage : (a : Asked) → Lineage (a .file) (listOf (traversal a))
+have-parents : (a : Asked) → HaveParents (a .file) (listOf (traversal a))
 unfolding traversal onOpened ifPassed fromRoots targetsOf
-lineage a = go (opening meta (a .file)) refl
+have-parents a = go (opening meta (a .file)) refl
   where
     E : Parameters
     E = endless a (targetsOf (a .file) (pairs meta (a .file)))
@@ -185,12 +185,12 @@ lineage a = go (opening meta (a .file)) refl
     stop : ℕ
     stop = start + field (a .file) (E .targets .at) (u64 0)
 
-    go : (v : Check) → opening meta (a .file) ≡ v → Lineage (a .file) (listOf (ifPassed (λ r. refused r []) v (fromRoots E)))
+    go : (v : Check) → opening meta (a .file) ≡ v → HaveParents (a .file) (listOf (ifPassed (λ r. refused r []) v (fromRoots E)))
     go Passed e =
         let kept = roots-kept meta (a .file) (opens-iff meta (a .file) .0 e) Section.context (omega arith) refl in
         let some : start < stop → 0 < start = λ k. omega (arith, kept .after (omega arith)) in
         traces-level E (suc depthLimit) 0 [] start stop [] (record { starts = some; of = inl (refl, refl) }) tt .0
     go (Refused r) e = tt
 
-pub born-on-trail : (a : Asked) (e : Entry) → In e (listOf (traversal a)) → Born (a .file) (listOf (traversal a)) e
-born-on-trail a e h = all-in (Born (a .file) (listOf (traversal a))) (listOf (traversal a)) (lineage a) h
+pub parent-on-trail : (a : Asked) (e : Entry) → In e (listOf (traversal a)) → HasParent (a .file) (listOf (traversal a)) e
+parent-on-trail a e h = all-in (HasParent (a .file) (listOf (traversal a))) (listOf (traversal a)) (have-parents a) h
