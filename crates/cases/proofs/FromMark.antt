@@ -25,10 +25,10 @@ abbrev markOfB : List ℕ
 markOfB = markOfRoot 1
 
 -- of the child of A with a number, with a length field
-abbrev markOfChild : (length number : ℕ) → List ℕ
+abbrev pub markOfChild : (length number : ℕ) → List ℕ
 markOfChild length number = length ∷ 0 ∷ 1 ∷ 0 ∷ 2 ∷ 0 ∷ 0 ∷ 0 ∷ 0 ∷ number ∷ 0 ∷ 0 ∷ 0 ∷ []
 
-abbrev markOfC : List ℕ
+abbrev pub markOfC : List ℕ
 markOfC = markOfChild 13 0
 
 abbrev markOfD : List ℕ

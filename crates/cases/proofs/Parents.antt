@@ -5,6 +5,7 @@ use mathlib.Core.Path.{_≡_, refl}
 use lib.ListN.{set, replicate}
 use Rattle.cases.specs.Walks.{walkedRecords}
 use Rattle.cases.specs.W.{w}
+use Rattle.cases.proofs.FromMark.{markOfC}
 
 -- a record of W, whose contexts have no flex
 abbrev shown : (place depth ctxId relation lexicalType parent : ℕ) → List ℕ
@@ -21,10 +22,6 @@ ofD = shown 288 2 3 0 2 216
 
 abbrev ofB : List ℕ
 ofB = shown 240 1 4 1 0 0
-
--- A's first child
-abbrev markOfC : List ℕ
-markOfC = 13 ∷ 0 ∷ 1 ∷ 0 ∷ 2 ∷ 0 ∷ 0 ∷ 0 ∷ 0 ∷ 0 ∷ 0 ∷ 0 ∷ 0 ∷ []
 
 -- W with one root, A, and B as the child of C: a third level, and D after a sibling that has a child
 abbrev deeper : List ℕ
