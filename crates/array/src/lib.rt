@@ -1,4 +1,5 @@
 // Arrays in a file: elements by position, links by place.
+#![tactic(auto)]
 ghost use Rattle.std.specs.Prelude.{◌≡◌, ◌+◌, ◌≤◌, length};
 ghost use Rattle.open.specs.Format.{specs_array, infos_array, names_array};
 ghost use Rattle.array.specs.Element.{element_at, linked, Bounded};
@@ -7,7 +8,7 @@ ghost use Rattle.array.specs.Stored.{array_of};
 use refusal::Refusal;
 
 // `count` elements, a stride apart from a place on.
-#[derive(Drop)]
+#[derive(Clone, Copy)]
 pub struct Array {
     pub place: u64,
     pub count: u64,
@@ -15,7 +16,7 @@ pub struct Array {
 }
 
 // The place of an element, or the refusal.
-#[derive(Drop)]
+#[derive(Clone, Copy)]
 pub enum Element {
     At(u64),
     Refused(refusal::Refusal),

@@ -1,4 +1,5 @@
 // Sparse blocks of profile.db and cct.db: validated in one pass, searched by halving.
+#![tactic(auto)]
 ghost use Rattle.std.specs.Prelude.{true, [], ◌∷◌, ◌≡◌, ℕ, ◌+◌, ◌*◌, ◌-◌, ◌≤◌, ◌<◌, length};
 ghost use Rattle.le.specs.Number.{number};
 ghost use Rattle.seq.specs.declared.Position.TheVariants as Position;
@@ -14,7 +15,7 @@ use seq::Position;
 const NO_HINT: u64 = 0xffff_ffff_ffff_ffff;
 
 // Bytes of outer and inner ids, the least inner id, and where the file's header ends.
-#[derive(Drop)]
+#[derive(Clone, Copy)]
 pub struct Shape {
     pub outer: u64,
     pub inner: u64,
@@ -23,7 +24,7 @@ pub struct Shape {
 }
 
 // Numbers of values and indices, and where they stand, as the file has them.
-#[derive(Drop)]
+#[derive(Clone, Copy)]
 pub struct Block {
     pub total: u64,
     pub values: u64,
@@ -32,14 +33,14 @@ pub struct Block {
 }
 
 // The values of a sub-array.
-#[derive(Drop)]
+#[derive(Clone, Copy)]
 pub struct Part {
     pub place: u64,
     pub length: u64,
 }
 
 // A value's bits, or that there is none.
-#[derive(Drop)]
+#[derive(Clone, Copy)]
 pub enum Lookup {
     Found(u64),
     Absent,

@@ -1,4 +1,5 @@
 // One context of meta.db: its rules, its fields.
+#![tactic(auto)]
 ghost use Rattle.std.specs.Prelude.{true, ◌≡◌, ◌+◌, ◌*◌, ◌≤◌, ◌<◌, length};
 ghost use Rattle.le.specs.Number.{number};
 ghost use Rattle.refusal.specs.Check.{either};

@@ -1,4 +1,5 @@
 // How many elements a file has.
+#![tactic(auto)]
 ghost use Rattle.std.specs.Prelude.{◌≡◌, ◌+◌, ◌≤◌, length};
 ghost use Rattle.open.specs.Format.{profile, cct, trace, infos_array};
 ghost use Rattle.array.specs.Stored.{array_of};
@@ -7,7 +8,7 @@ ghost use Rattle.count.specs.Count.{count_of};
 use open::INFOS;
 use refusal::Check;
 
-#[derive(Drop)]
+#[derive(Clone, Copy)]
 pub enum Count {
     Of(u64),
     Refused(refusal::Refusal),

@@ -1,4 +1,5 @@
 // Old DCPI sample files: the binary section, validated in one pass before anything is answered.
+#![tactic(auto)]
 ghost use Rattle.std.specs.Prelude.{◌≡◌, ℕ, ◌+◌, ◌*◌, ◌^◌, ◌≤◌, ◌<◌, length};
 ghost use Rattle.refusal.specs.declared.Check.TheVariants as Check;
 ghost use Rattle.dcpi.specs.Samples.{total_offsets, total_samples, chunk_at, chunks, counts_from, sample_counts, non_zero, sum_of};
@@ -11,7 +12,7 @@ use refusal::{Check, Refusal};
 pub const SPACING: u64 = 1;
 
 // The count for an offset.
-#[derive(Drop)]
+#[derive(Clone, Copy)]
 pub enum SampleCount {
     Found(u64),
     Absent,
@@ -19,14 +20,14 @@ pub enum SampleCount {
 }
 
 // How many counts are not zero, and their sum.
-#[derive(Drop)]
+#[derive(Clone, Copy)]
 pub enum SampleTotals {
     Of { offsets: u64, samples: u64 },
     Refused(refusal::Refusal),
 }
 
 // Of the counts of a chunk: how many are not zero, and their sum.
-#[derive(Drop)]
+#[derive(Clone, Copy)]
 struct Sums {
     nonzero: u64,
     sum: u64,
@@ -67,7 +68,7 @@ fn chunk_rule(samples: &[u8], p: usize) -> bool
 }
 
 // What a pass over the chunks comes to: the check, and of chunks that keep the rules how many counts are not zero, and their sum.
-#[derive(Drop)]
+#[derive(Clone, Copy)]
 struct Seen {
     check: Check,
     nonzero: u64,

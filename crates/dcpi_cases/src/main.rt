@@ -1,6 +1,7 @@
 // Asks the DCPI samples that each line of `list` names for their totals, for the count of an offset or for their entries, and prints the
 // line and the answer. A line has the name of a file, and then `totals`, or `lookup` and an offset, or `entries`, a profile, a metric and
 // how many bytes are lent. Those are 255 before, and are printed in rows of an entry's size, each with its place.
+#![tactic(auto)]
 use dcpi::{SampleCount, SampleTotals};
 use dcpi_entries::EntryCount;
 use libc::STDOUT_FILENO;

@@ -1,4 +1,5 @@
 // The non-zero counts of a DCPI sample file as entries for the writer of profile.db. Nothing is written before the last refusal is excluded.
+#![tactic(auto)]
 ghost use Rattle.std.specs.Prelude.{List, ◌++◌, ◌≡◌, ℕ, ◌+◌, ◌-◌, ◌*◌, ◌%◌, ◌^◌, ◌≤◌, ◌<◌, length};
 ghost use Rattle.refusal.specs.declared.Check.TheVariants as Check;
 ghost use Rattle.buffer.specs.Over.{over};
@@ -10,14 +11,14 @@ use dcpi::{SPACING, SampleTotals};
 use refusal::Refusal;
 
 // How many entries there are, or the refusal.
-#[derive(Drop)]
+#[derive(Clone, Copy)]
 pub enum EntryCount {
     Of(u64),
     Refused(refusal::Refusal),
 }
 
 // What the entries have in common.
-#[derive(Drop)]
+#[derive(Clone, Copy)]
 struct Series {
     profile: u32,
     metric: u16,

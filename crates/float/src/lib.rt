@@ -1,4 +1,5 @@
 // Floats by their 64 bits.
+#![tactic(auto)]
 ghost use Rattle.std.specs.Prelude.{◌≡◌};
 ghost use Rattle.float.specs.Float.{finite, integer_bits};
 

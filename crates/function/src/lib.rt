@@ -1,4 +1,5 @@
 // meta.db: functions.
+#![tactic(auto)]
 ghost use Rattle.std.specs.Prelude.{◌≡◌, ◌+◌};
 ghost use Rattle.le.specs.Number.{number};
 ghost use Rattle.open.specs.Format.{meta};
@@ -11,7 +12,7 @@ use refusal::{Check, Refusal};
 use text::Text;
 
 // A function. Its name's place is 0 exactly if it has none; a link is 0 or the place of a module or file.
-#[derive(Drop)]
+#[derive(Clone, Copy)]
 pub enum Function {
     Found {
         name: u64,

@@ -1,4 +1,5 @@
 // The hot path of two files: from the roots down, always to the child with the greatest value.
+#![tactic(auto)]
 ghost use Rattle.std.specs.Prelude.{true, List, [], ◌≡◌, ◌+◌, ◌≤◌, length};
 ghost use Rattle.float.specs.Float.{finite};
 ghost use Rattle.refusal.specs.declared.Check.TheVariants.{Passed};
@@ -24,7 +25,7 @@ use traversal::Walked;
 const LEVELS: usize = 200;
 
 // The place of the hottest of some contexts; nowhere where none has a value.
-#[derive(Drop)]
+#[derive(Clone, Copy)]
 pub enum Hottest {
     At(u64),
     Nowhere,
@@ -32,14 +33,14 @@ pub enum Hottest {
 }
 
 // How many places the path has.
-#[derive(Drop)]
+#[derive(Clone, Copy)]
 pub enum HotPath {
     Of(u64),
     Refused(refusal::Refusal),
 }
 
 // Of the contexts so far with a value: the first greatest, by its place and bits, which are 0 where there is none.
-#[derive(Drop)]
+#[derive(Clone, Copy)]
 pub struct Lead {
     pub some: bool,
     pub place: u64,

@@ -1,4 +1,5 @@
 // Lookups in profile.db and cct.db.
+#![tactic(auto)]
 ghost use Rattle.std.specs.Prelude.{[], ◌∷◌, ◌≡◌, ◌+◌, ◌≤◌, length, get_or};
 ghost use Rattle.open.specs.Format.{infos_array};
 ghost use Rattle.array.specs.Element.{Bounded};
@@ -13,7 +14,7 @@ use open::{ID_TUPLES, INFOS};
 use refusal::{Check, Refusal};
 
 // A block that keeps the rules, by value, or the refusal.
-#[derive(Drop)]
+#[derive(Clone, Copy)]
 pub enum Checked {
     Valid(block::Block),
     Refused(refusal::Refusal),

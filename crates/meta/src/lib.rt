@@ -1,4 +1,5 @@
 // meta.db: title and description, identifier kinds, modules, source files, and the counts of all arrays.
+#![tactic(auto)]
 ghost use Rattle.std.specs.Prelude.{◌≡◌};
 ghost use Rattle.refusal.specs.Check.{code_of};
 ghost use Rattle.open.specs.Format.{meta};
@@ -13,7 +14,7 @@ use refusal::Check;
 use text::Text;
 
 // A source file: its path, and whether it was copied into the database.
-#[derive(Drop)]
+#[derive(Clone, Copy)]
 pub enum SourceFile {
     Found {
         place: u64,

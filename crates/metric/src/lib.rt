@@ -1,4 +1,5 @@
 // meta.db: metrics, their scopes, and the scopes' summaries.
+#![tactic(auto)]
 ghost use Rattle.std.specs.Prelude.{◌≡◌};
 ghost use Rattle.open.specs.Format.{meta};
 ghost use Rattle.open.specs.Kept.{Sections};
@@ -19,20 +20,20 @@ const SCOPE_STRIDE: u64 = 13;
 const SUMMARY_STRIDE: u64 = 14;
 
 // A metric or a scope: its place, and the array of its scopes or summaries.
-#[derive(Drop)]
+#[derive(Clone, Copy)]
 enum Nested {
     Of { at: u64, inner: Array },
     Refused(refusal::Refusal),
 }
 
 // Each answer has the string's place and length, and the element's numbers.
-#[derive(Drop)]
+#[derive(Clone, Copy)]
 pub enum Metric {
     Found { name: u64, length: u64, scopes: u64 },
     Refused(refusal::Refusal),
 }
 
-#[derive(Drop)]
+#[derive(Clone, Copy)]
 pub enum Scope {
     Found {
         name: u64,
@@ -43,7 +44,7 @@ pub enum Scope {
     Refused(refusal::Refusal),
 }
 
-#[derive(Drop)]
+#[derive(Clone, Copy)]
 pub enum Summary {
     Found {
         formula: u64,

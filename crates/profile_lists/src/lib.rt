@@ -1,4 +1,5 @@
 // The lists that a profile.db is written from, as they are lent, and their check: everything is decided here before a byte is written.
+#![tactic(auto)]
 ghost use Rattle.std.specs.Prelude.{◌≡◌, ℕ, suc, ◌+◌, ◌*◌, ◌^◌, ◌≤◌, ◌<◌, min, leb, ltb, length};
 ghost use Rattle.layout.specs.Many.{many};
 ghost use Rattle.refusal.specs.declared.Refusal.TheVariants as No;
@@ -109,7 +110,7 @@ fn claimed(tuples: &[u64], most: u64) -> u64
 }
 
 // The run of a profile: where it ends, and how many contexts it has.
-#[derive(Drop)]
+#[derive(Clone, Copy)]
 pub struct Run {
     pub end: usize,
     pub contexts: u64,
@@ -148,7 +149,7 @@ fn run_at(entries: &[u8], p: usize, start: usize) -> Run
 }
 
 // What the blocks of the profiles come to: whether each one's contexts can be counted, and how many bytes they have.
-#[derive(Drop)]
+#[derive(Clone, Copy)]
 struct Blocks {
     counted: bool,
     bytes: u64,

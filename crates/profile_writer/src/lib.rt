@@ -1,4 +1,5 @@
 // A profile.db, written from lent lists. Nothing is written before the last refusal is excluded.
+#![tactic(auto)]
 ghost use Rattle.std.specs.Prelude.{true, [], ◌∷◌, ◌++◌, ◌≡◌, ℕ, ◌+◌, ◌*◌, ◌^◌, ◌≤◌, ◌<◌, length};
 ghost use Rattle.le.specs.Number.{number};
 ghost use Rattle.refusal.specs.declared.Check.TheVariants as Check;
@@ -22,7 +23,7 @@ use profile_lists::Run;
 use refusal::Check;
 
 // The file's length, or the refusal.
-#[derive(Drop)]
+#[derive(Clone, Copy)]
 pub enum Written {
     Of(u64),
     Refused(refusal::Refusal),

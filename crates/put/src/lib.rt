@@ -1,4 +1,5 @@
 // Numbers and texts written to lent bytes.
+#![tactic(auto)]
 ghost use Rattle.std.specs.Prelude.{◌≡◌, ◌+◌, ◌≤◌, length};
 ghost use Rattle.layout.specs.Bytes.{bytes};
 ghost use Rattle.buffer.specs.Over.{over};

@@ -1,6 +1,7 @@
 // Walks, from a mark on or from the first root: a loop that keeps its way down in words, by which it comes back up, and which gives a
 // record its parent and the new mark its numbers. What is counted on the way are the marks passed from the given one on, itself among them, so
 // that 0 says that it is not passed yet; the numbers in the answers of `visit_answer`, `contexts` and `walk_in` are these.
+#![tactic(auto)]
 ghost use Rattle.std.specs.Prelude.{true, ◌||◌, not, [], ◌≡◌, suc, ◌+◌, ◌≤◌, ◌<◌, eqb, leb, length, set, replicate};
 ghost use Rattle.refusal.specs.Check.{either};
 ghost use Rattle.open.specs.Format.{meta};
@@ -23,7 +24,7 @@ use traversal::Walked;
 const WAY: usize = 201;
 
 // A place of the walk: below `up` contexts of the way, at `p` in an array that ends at `end`.
-#[derive(Drop)]
+#[derive(Clone, Copy)]
 struct Cursor {
     up: usize,
     p: usize,
@@ -71,7 +72,7 @@ fn store_visit(file: &[u8], here: Cursor, table: &mut [u64], way: &mut [u64; WAY
 }
 
 // How many marks are passed, and while there are none, how far the given one is found.
-#[derive(Drop)]
+#[derive(Clone, Copy)]
 struct Progress {
     marks: usize,
     seek: Seek,

@@ -1,4 +1,5 @@
 // Parts of a text: what the programs that run cases read their lists with.
+#![tactic(auto)]
 ghost use Rattle.std.specs.Prelude.{◌≡◌, ◌+◌, ◌-◌, ◌*◌, ◌^◌, ◌≤◌, min, length};
 ghost use Rattle.script.specs.Line.{part_at, decimal};
 

@@ -1,6 +1,7 @@
 // Where a key is in a sequence: the answer of searches.
+#![tactic(auto)]
 
-#[derive(Drop)]
+#[derive(Clone, Copy)]
 pub enum Position {
     At(u64),
     Nowhere,

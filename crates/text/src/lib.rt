@@ -1,4 +1,5 @@
 // Strings in a section of a file.
+#![tactic(auto)]
 ghost use Rattle.std.specs.Prelude.{◌≡◌, length, take, drop};
 ghost use Rattle.text.specs.String.{bytes_from, string_at, text_code, text_bytes};
 
@@ -6,7 +7,7 @@ use refusal::Refusal;
 use utf8::Utf8;
 
 // Where a string stands, without its NUL; or the refusal.
-#[derive(Drop)]
+#[derive(Clone, Copy)]
 pub enum Text {
     At { place: u64, length: u64 },
     Refused(refusal::Refusal),

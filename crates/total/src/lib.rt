@@ -1,4 +1,5 @@
 // Totals over entries in order, one entry at a time.
+#![tactic(auto)]
 ghost use Rattle.std.specs.Prelude.{◌≡◌, true, false, ℕ};
 ghost use Rattle.std.specs.Float.{binary64};
 ghost use Rattle.std.specs.Float.Ieee.{of_bits, add};
@@ -6,7 +7,7 @@ ghost use Rattle.float.specs.Float.{finite, less};
 ghost use Rattle.total.specs.Totals.{start_of, step_of, finish, Good};
 
 // Of the entries so far: the first smallest and the first greatest, each by its identifier and bits, and the sum.
-#[derive(Drop)]
+#[derive(Clone, Copy)]
 pub struct Tally {
     pub least_of: u64,
     pub least: u64,
@@ -16,7 +17,7 @@ pub struct Tally {
 }
 
 // Of all entries: Absent where there is none, refused where one is not finite.
-#[derive(Drop)]
+#[derive(Clone, Copy)]
 pub enum Totals {
     Of {
         count: u64,

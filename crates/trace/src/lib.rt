@@ -1,4 +1,5 @@
 // Trace lines of trace.db: validated in one pass, searched by halving.
+#![tactic(auto)]
 ghost use Rattle.std.specs.Prelude.{[], ◌∷◌, true, ◌≡◌, ◌+◌, ◌-◌, ◌*◌, ◌≤◌, ◌<◌, leb, length, get_or};
 ghost use Rattle.open.specs.Format.{infos_array};
 ghost use Rattle.array.specs.Element.{Bounded};
@@ -16,7 +17,7 @@ use seq::Position;
 const GAP: u64 = 0;
 
 // A line: its profile, the place of its first sample, and how many there are.
-#[derive(Drop)]
+#[derive(Clone, Copy)]
 pub enum Line {
     Of {
         profile: u64,
@@ -27,7 +28,7 @@ pub enum Line {
 }
 
 // A sample: its position in the line, its timestamp and its context.
-#[derive(Drop)]
+#[derive(Clone, Copy)]
 pub enum Sample {
     At {
         position: u64,

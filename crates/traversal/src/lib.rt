@@ -1,6 +1,7 @@
 // How a walk ends, with the number of contexts listed.
+#![tactic(auto)]
 
-#[derive(Drop)]
+#[derive(Clone, Copy)]
 pub enum Walked {
     Complete(usize),
     Truncated(usize),

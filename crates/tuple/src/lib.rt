@@ -1,4 +1,5 @@
 // Identifier tuples of profile.db.
+#![tactic(auto)]
 ghost use Rattle.std.specs.Prelude.{[], ◌∷◌, ◌≡◌, ◌+◌, ◌≤◌, length, get_or};
 ghost use Rattle.open.specs.Format.{infos_array};
 ghost use Rattle.array.specs.Element.{Bounded};
@@ -11,14 +12,14 @@ use open::{ID_TUPLES, INFOS};
 use refusal::{Check, Refusal};
 
 // A tuple, as the array of its identifications.
-#[derive(Drop)]
+#[derive(Clone, Copy)]
 pub enum Tuple {
     Of(array::Array),
     Refused(refusal::Refusal),
 }
 
 // One identification. Bit 0 of the flags is `isPhysical`.
-#[derive(Drop)]
+#[derive(Clone, Copy)]
 pub enum Identifier {
     Of {
         kind: u64,

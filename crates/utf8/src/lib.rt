@@ -1,11 +1,12 @@
 // Text in UTF-8, up to its NUL.
+#![tactic(auto)]
 ghost use Rattle.std.specs.Prelude.{◌≡◌, true, [], ◌∷◌, ◌+◌, ◌≤◌, ◌<◌, length, drop};
 ghost use Rattle.utf8.specs.Grammar.{◌to◌, continuation, multibyte, in_range, size_if, char_size};
 ghost use Rattle.utf8.specs.Terminated.{terminated};
 ghost use Rattle.utf8.specs.Progress.{second_low, second_high, is_plain, Spans, PlainSpan, CharsEnd};
 
 // The string that the first NUL ends: its length where it is UTF-8.
-#[derive(Drop)]
+#[derive(Clone, Copy)]
 pub enum Utf8 {
     Valid(usize),
     Invalid,

@@ -2,6 +2,7 @@
 // bytes, in rows of 32 with their places; rows of zeros are left out. A case has three lines: the name of a file of identifications, how
 // many bytes of them are lent (behind the file's own they are 0), the name of a file of entries and how many bytes are lent to be written;
 // the number of each profile's tuple; how many identifications each tuple has.
+#![tactic(auto)]
 ghost use Rattle.std.specs.Prelude.{◌≡◌, length};
 
 use libc::STDOUT_FILENO;
