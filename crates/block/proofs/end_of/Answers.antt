@@ -1,0 +1,12 @@
+-- By whether another sub-array follows.
+use Rattle.block.proofs.Order.{inner_end, last_end}
+use mathlib.Core.Path.{sym, ◌∙◌}
+use Rattle.block.proofs.end_of.Goals as goal
+
+pub returns-then-i-b : goal.returns-then-i-b
+returns-then-i-b c =
+    c.start_of.ensures ∙ sym (inner_end c.args.file.now c.args.h c.args.b c.args.i c.if-i-b.true)
+
+pub returns-else-i-b : goal.returns-else-i-b
+returns-else-i-b c =
+    sym (last_end c.args.file.now c.args.h c.args.b c.args.i c.if-i-b.false)

@@ -1,0 +1,68 @@
+-- The outer ids passed rise, and their sub-arrays are right; the next one starts at `start`.
+use Rattle.block.specs.Block.{outer_ids}
+use Rattle.block.specs.OnePass.{part_rule}
+use Rattle.block.proofs.Order.{inner_end}
+use Rattle.block.proofs.Parts.{start_fails, ids_fail, part_fails, all_pass}
+use Rattle.seq.proofs.Every.{every_none, every_more}
+use Rattle.seq.proofs.Rising.{rising_start, rising_not, rising_more, rising_all}
+use Prim.Native.Nat.{◌-◌}
+use mathlib.Core.Path.{◌≡◌, sym, ◌∙◌}
+use native.Mathlib.Omega.{arith}
+use borrow.Author.Tests.{not-true, not-false}
+use Rattle.block.proofs.order_rule.Goals as goal
+
+pub start_of-requires : goal.start_of-requires
+start_of-requires c =
+    record {
+      arrays_inside = c.requires;
+      i_lt_count = c.requires.some_index;
+    }
+
+pub returns-then-start_of-ne0 : goal.returns-then-start_of-ne0
+returns-then-start_of-ne0 c =
+    start_fails c.args.file.now c.args.h c.args.b (λ e. c.if-start_of-ne0.true (c.start_of.ensures ∙ e))
+
+pub loop-i-init : goal.loop-i-init
+loop-i-init c =
+    (
+      rising_start 0 1 (outer_ids c.args.file.now c.args.h c.args.b) c.args.b.count,
+      every_none (part_rule c.args.file.now c.args.h c.args.b),
+      λ l. sym c.if-start_of-ne0.false ∙ c.start_of.ensures,
+    )
+
+pub id_at-id-requires : goal.id_at-id-requires
+id_at-id-requires c =
+    record {
+      elements_inside = c.requires.indices;
+      k_lt_n = c.loop-i-test.true;
+    }
+
+pub returns-then-id-low : goal.returns-then-id-low
+returns-then-id-low c =
+    ids_fail c.args.file.now c.args.h c.args.b (rising_not c.loop-i.invariant.0 c.loop-i-test.true (rw c.id_at-id.ensures.value at c.if-id-low.true))
+
+pub end_of-end-requires : goal.end_of-end-requires
+end_of-end-requires c =
+    record {
+      arrays_inside = c.requires;
+      i_lt_count = c.loop-i-test.true;
+    }
+
+pub returns-then-not-part_rule : goal.returns-then-not-part_rule
+returns-then-not-part_rule c =
+    let told = c.part_rule.ensures c.loop-i.i (c.loop-i.invariant.2 c.loop-i-test.true) c.end_of-end.ensures in
+    part_fails c.args.file.now c.args.h c.args.b c.loop-i.i c.loop-i-test.true (sym told ∙ not-true _ c.if-not-part_rule.true)
+
+pub loop-i-preserved : goal.loop-i-preserved
+loop-i-preserved c =
+    let told = c.part_rule.ensures c.loop-i.i (c.loop-i.invariant.2 c.loop-i-test.true) c.end_of-end.ensures in (
+      rw c.id_at-id.ensures.value (rising_more c.loop-i.invariant.0 c.loop-i-test.true (rw c.id_at-id.ensures.value at c.if-id-low.false)),
+      every_more (part_rule c.args.file.now c.args.h c.args.b) c.loop-i.i c.loop-i.invariant.1 (sym told ∙ not-false _ c.if-not-part_rule.false),
+      λ l. c.end_of-end.ensures ∙ inner_end c.args.file.now c.args.h c.args.b c.loop-i.i l,
+    )
+
+pub returns : goal.returns
+returns c =
+    let e : c.loop-i.i ≡ c.args.b.count = omega (arith, c.loop-i.invariant.0.within) in
+    all_pass c.args.file.now c.args.h c.args.b (sym c.start_of.ensures ∙ c.if-start_of-ne0.false) (rising_all c.loop-i.invariant.0 c.loop-i-test.false)
+    (rw e at c.loop-i.invariant.1)

@@ -1,0 +1,26 @@
+-- By its start and its end.
+use Rattle.block.proofs.Parts.{part_inside, part_empty, part_long, part_is}
+use mathlib.Core.Path.{◌∙◌}
+use native.Mathlib.Omega.{arith}
+use Rattle.block.proofs.part_rule.Goals as goal
+
+pub returns-then-end-start : goal.returns-then-end-start
+returns-then-end-start c i s e =
+    part_empty c.args.file.now c.args.h c.args.b i c.args.start c.args.end s e c.if-end-start.true
+
+pub returns-then-b-end : goal.returns-then-b-end
+returns-then-b-end c i s e =
+    part_long c.args.file.now c.args.h c.args.b i c.args.start c.args.end s e (omega (arith, c.if-end-start.false)) c.if-b-end.true
+
+pub ids_rise-requires : goal.ids_rise-requires
+ids_rise-requires c =
+    rw c.element-at.ensures.value
+    (part_inside c.args.file.now c.args.b.values c.args.h.inner c.args.b.total c.args.start c.args.end c.requires.values (omega (arith, c.if-end-start.false))
+    (omega (arith, c.if-b-end.false)))
+
+pub returns : goal.returns
+returns c i s e =
+    c.ids_rise.ensures
+    ∙ part_is c.args.file.now c.args.h c.args.b i c.args.start c.args.end s e c.element-at.result c.element-at.ensures.value
+    (omega (arith, c.if-end-start.false))
+    (omega (arith, c.if-b-end.false))

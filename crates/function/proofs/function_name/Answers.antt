@@ -1,0 +1,6 @@
+-- The bytes of the answer.
+use Rattle.function.proofs.function_name.Goals as goal
+
+pub returns : goal.returns
+returns c =
+    rw (← c.function_at.ensures) (c.name_bytes.ensures.result_value, c.name_bytes.ensures.which_after)

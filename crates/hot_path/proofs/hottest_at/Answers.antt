@@ -1,0 +1,107 @@
+-- Along the array: the lead among the contexts passed.
+use Prim.Native.Nat.{ℕ, ◌-◌, ◌<◌}
+use mathlib.Core.List.{[], ◌∷◌}
+use mathlib.Core.Logic.{⊎_elim}
+use mathlib.Core.Path.{◌≡◌, refl, sym, ◌∙◌}
+use native.Mathlib.Omega.{arith}
+use borrow.Author.Tests.{not-true, not-false}
+use types.Run.{OneOf}
+use denote.Enum.Declared.{tag_of}
+use Rattle.block.specs.contracts.Lookup.{the_type as lookup-type}
+use Rattle.block.specs.declared.Lookup.{Lookup}
+use Rattle.block.specs.declared.Lookup.TheVariants.{Found, Absent, Refused}
+use Rattle.hot_path.specs.HotPath.{candidate}
+use Rattle.context.specs.Context.{children_end}
+use Rattle.hot_path.proofs.Seeking.{place_read, end_read, value_read}
+use Rattle.hot_path.proofs.Seeking.{seeking_start, seeking_fits, seeking_none, seeking_more, seeking_not, seeking_nowhere, seeking_at}
+use Rattle.hot_path.proofs.hottest_at.Goals as goal
+
+-- an answer with another tag has no value
+no-candidate : (p : ℕ) (a : Lookup) → OneOf (1 ∷ 2 ∷ []) (tag_of lookup-type a) → candidate p a ≡ []
+unfolding candidate
+no-candidate p (Found bits) h = absurd (⊎_elim (λ g. omega (arith, g)) (λ g. omega (arith, g)) h)
+no-candidate p Absent h = refl
+no-candidate p (Refused r) h = refl
+
+pub load_u64-bytes-requires : goal.load_u64-bytes-requires
+load_u64-bytes-requires c =
+    omega (arith, c.requires.array_inside.readable)
+
+pub load_u64-p-requires : goal.load_u64-p-requires
+load_u64-p-requires c =
+    omega (arith, c.requires.array_inside.readable)
+
+pub overflow_add-stop : goal.overflow_add-stop
+overflow_add-stop c =
+    let end = end_read c.args.meta.now c.args.at c.load_u64-p.ensures c.load_u64-bytes.ensures in
+    omega (arith, end, c.requires.array_inside.ends)
+
+pub loop-p-init : goal.loop-p-init
+loop-p-init c =
+    (
+      end_read c.args.meta.now c.args.at c.load_u64-p.ensures c.load_u64-bytes.ensures,
+      rw (place_read c.args.meta.now c.args.at c.load_u64-p.ensures) (seeking_start c.args.meta.now _ c.args.at c.requires.array_inside),
+    )
+
+pub overflow_add-p : goal.overflow_add-p
+overflow_add-p c =
+    let fits = seeking_fits c.args.meta.now _ c.args.at c.loop-p.invariant.1 (omega (arith, c.loop-p.invariant.0, c.loop-p-test.true)) in
+    omega (arith, fits, c.requires.array_inside.ends)
+
+pub load_u32-id-requires : goal.load_u32-id-requires
+load_u32-id-requires c =
+    let fits = seeking_fits c.args.meta.now _ c.args.at c.loop-p.invariant.1 (omega (arith, c.loop-p.invariant.0, c.loop-p-test.true)) in
+    omega (arith, fits, c.requires.array_inside.ends)
+
+pub find_near-answer-requires : goal.find_near-answer-requires
+find_near-answer-requires c =
+    rw c.profile_shape-h.ensures c.requires.sound_block
+
+pub returns-then-not-is_finite : goal.returns-then-not-is_finite
+returns-then-not-is_finite c =
+    let e = value_read c.args.db.now c.args.b c.args.meta.now c.loop-p.p c.args.metric c.find_near-answer.ensures c.profile_shape-h.ensures c.load_u32-id.ensures in
+    sym (seeking_not c.args.meta.now _ c.args.at c.loop-p.invariant.1 (omega (arith, c.loop-p.invariant.0, c.loop-p-test.true)) _ (e ∙ c.in-Found.is)
+    (sym c.is_finite.ensures ∙ not-true _ c.if-not-is_finite.true))
+
+pub lead_with-lead-requires : goal.lead_with-lead-requires
+lead_with-lead-requires c =
+    record {
+      bits_value = c.loop-p.invariant.1.leads.lead_finite;
+      bits_value_2 = sym c.is_finite.ensures ∙ not-false _ c.if-not-is_finite.false;
+    }
+
+pub extent-p-requires : goal.extent-p-requires
+extent-p-requires c =
+    let fits = seeking_fits c.args.meta.now _ c.args.at c.loop-p.invariant.1 (omega (arith, c.loop-p.invariant.0, c.loop-p-test.true)) in
+    omega (arith, fits, c.requires.array_inside.ends)
+
+pub overflow_add-p-in-loop-p : goal.overflow_add-p-in-loop-p
+overflow_add-p-in-loop-p c =
+    let fits = seeking_fits c.args.meta.now _ c.args.at c.loop-p.invariant.1 (omega (arith, c.loop-p.invariant.0, c.loop-p-test.true)) in
+    omega (arith, fits, c.extent-p.ensures, c.requires.array_inside.ends)
+
+pub loop-p-smaller : goal.loop-p-smaller
+loop-p-smaller c =
+    let fits = seeking_fits c.args.meta.now _ c.args.at c.loop-p.invariant.1 (omega (arith, c.loop-p.invariant.0, c.loop-p-test.true)) in
+    omega (arith, fits, c.extent-p.ensures, c.loop-p-test.true)
+
+pub loop-p-preserved : goal.loop-p-preserved
+loop-p-preserved c =
+    let e = value_read c.args.db.now c.args.b c.args.meta.now c.loop-p.p c.args.metric c.find_near-answer.ensures c.profile_shape-h.ensures c.load_u32-id.ensures in
+    let below : c.loop-p.p < children_end c.args.meta.now c.args.at = omega (arith, c.loop-p.invariant.0, c.loop-p-test.true) in
+    (
+      c.loop-p.invariant.0,
+      rw c.extent-p.ensures (⊎_elim
+          (λ w. rw (w.6, w.5.ensures)
+          (seeking_more c.args.meta.now _ c.args.at c.loop-p.invariant.1 below _ (e ∙ w.1.given.1) (sym w.3.ensures ∙ not-false _ w.4.left)))
+          (λ w. rw w.1 (seeking_none c.args.meta.now _ c.args.at c.loop-p.invariant.1 below (rw e (no-candidate c.loop-p.p c.find_near-answer.result w.0.keys2))))
+          c.match-answer.branch),
+    )
+
+pub returns-then-lead : goal.returns-then-lead
+returns-then-lead c =
+    sym (seeking_at c.args.meta.now _ c.args.at c.loop-p.invariant.1 (omega (arith, c.loop-p.invariant.0, c.loop-p-test.false)) c.if-lead.true)
+
+pub returns : goal.returns
+returns c =
+    sym (seeking_nowhere c.args.meta.now _ c.args.at c.loop-p.invariant.1 (omega (arith, c.loop-p.invariant.0, c.loop-p-test.false)) c.if-lead.false)

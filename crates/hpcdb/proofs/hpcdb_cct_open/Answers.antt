@@ -1,0 +1,6 @@
+-- The answer, in words.
+use Rattle.hpcdb.proofs.hpcdb_cct_open.Goals as goal
+
+pub returns : goal.returns
+returns c =
+    rw (← c.contexts.ensures) (c.put_count.ensures.value, c.put_count.ensures.out_after)

@@ -1,0 +1,6 @@
+-- The answer, in words.
+use Rattle.hpcdb.proofs.hpcdb_cct_totals.Goals as goal
+
+pub returns : goal.returns
+returns c =
+    rw (← c.totals.ensures) (c.put_totals.ensures.value, c.put_totals.ensures.out_after)

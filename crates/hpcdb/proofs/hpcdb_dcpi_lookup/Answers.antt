@@ -1,0 +1,6 @@
+-- The answer, in words.
+use Rattle.hpcdb.proofs.hpcdb_dcpi_lookup.Goals as goal
+
+pub returns : goal.returns
+returns c =
+    rw (← c.lookup.ensures) (c.put_sample_count.ensures.value, c.put_sample_count.ensures.out_after)

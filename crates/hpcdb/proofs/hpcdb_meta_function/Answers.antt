@@ -1,0 +1,6 @@
+-- The answer, in words.
+use Rattle.hpcdb.proofs.hpcdb_meta_function.Goals as goal
+
+pub returns : goal.returns
+returns c =
+    rw (← c.function_at.ensures) (c.put_function.ensures.value, c.put_function.ensures.out_after)

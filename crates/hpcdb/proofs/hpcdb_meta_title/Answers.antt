@@ -1,0 +1,6 @@
+-- The answer, in words.
+use Rattle.hpcdb.proofs.hpcdb_meta_title.Goals as goal
+
+pub returns : goal.returns
+returns c =
+    rw (← c.title_at.ensures) (c.put_text.ensures.value, c.put_text.ensures.out_after)

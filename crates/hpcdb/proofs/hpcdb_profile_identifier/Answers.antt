@@ -1,0 +1,6 @@
+-- The answer, in words.
+use Rattle.hpcdb.proofs.hpcdb_profile_identifier.Goals as goal
+
+pub returns : goal.returns
+returns c =
+    rw (← c.identifier_at.ensures) (c.put_identifier.ensures.value, c.put_identifier.ensures.out_after)

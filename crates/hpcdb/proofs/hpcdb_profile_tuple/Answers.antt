@@ -1,0 +1,6 @@
+-- The answer, in words.
+use Rattle.hpcdb.proofs.hpcdb_profile_tuple.Goals as goal
+
+pub returns : goal.returns
+returns c =
+    rw (← c.tuple_at.ensures) (c.put_tuple.ensures.value, c.put_tuple.ensures.out_after)

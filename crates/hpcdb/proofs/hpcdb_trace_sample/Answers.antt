@@ -1,0 +1,6 @@
+-- The answer, in words.
+use Rattle.hpcdb.proofs.hpcdb_trace_sample.Goals as goal
+
+pub returns : goal.returns
+returns c =
+    rw (← c.sample_at.ensures) (c.put_sample.ensures.value, c.put_sample.ensures.out_after)

@@ -1,0 +1,12 @@
+-- Eight bytes, four and two.
+use Rattle.layout.proofs.Words.{fourteen_stand}
+use mathlib.Core.Path.{◌≡◌}
+use lib.ListN.{length}
+use borrow.Author.Rules.{rules}
+use Rattle.layout.proofs.has_fourteen.Goals as goal
+
+pub returns : goal.returns
+returns c =
+    let l : length c.args.text.now ≡ 14 = search rules in
+    rw (c.same_u64.ensures, c.same_u32.ensures, c.same_u16.ensures)
+    (fourteen_stand c.args.file.now c.args.at c.args.text.now l)

@@ -1,0 +1,6 @@
+-- The bytes of the answer.
+use Rattle.metric.proofs.scope_name.Goals as goal
+
+pub returns : goal.returns
+returns c =
+    rw (← c.scope_at.ensures, ← c.scope_text.ensures) (c.bytes.ensures.result_value, c.bytes.ensures.refusal_after)

@@ -1,0 +1,6 @@
+-- The bytes of the answer.
+use Rattle.metric.proofs.summary_formula.Goals as goal
+
+pub returns : goal.returns
+returns c =
+    rw (← c.summary_at.ensures, ← c.summary_text.ensures) (c.bytes.ensures.result_value, c.bytes.ensures.refusal_after)

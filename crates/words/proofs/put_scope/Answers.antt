@@ -1,0 +1,17 @@
+-- By the case.
+use Rattle.words.proofs.Laws.{answered, refused}
+use Rattle.metric.specs.Levels.{scope_words}
+use mathlib.Core.Path.{ap}
+use Rattle.words.proofs.put_scope.Goals as goal
+
+pub returns-in-Found : goal.returns-in-Found
+unfolding scope_words
+returns-in-Found c =
+    let all = answered _ (ap scope_words c.in-Found.is) in
+    record { value = all.0; out_after = all.1 }
+
+pub returns-in-Refused : goal.returns-in-Refused
+unfolding scope_words
+returns-in-Refused c =
+    let all = refused _ c.in-Refused.r _ (ap scope_words c.in-Refused.is) c.code.ensures in
+    record { value = all.0; out_after = all.1 }

@@ -1,0 +1,16 @@
+-- By the case.
+use Rattle.words.proofs.Laws.{answered, refused}
+use Rattle.meta.specs.Names.{source_words}
+use mathlib.Core.Path.{ap}
+use Rattle.words.proofs.put_source.Goals as goal
+
+pub returns-in-Found : goal.returns-in-Found
+unfolding source_words
+returns-in-Found c =
+    rw c.bit.ensures (answered _ (ap source_words c.in-Found.is))
+
+pub returns-in-Refused : goal.returns-in-Refused
+unfolding source_words
+returns-in-Refused c =
+    let all = refused _ c.in-Refused.r _ (ap source_words c.in-Refused.is) c.code.ensures in
+    record { value = all.0; out_after = all.1 }

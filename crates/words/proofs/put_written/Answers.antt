@@ -1,0 +1,17 @@
+-- By the case.
+use Rattle.words.proofs.Laws.{answered, refused}
+use Rattle.profile_writer.specs.Write.{written_words}
+use mathlib.Core.Path.{ap}
+use Rattle.words.proofs.put_written.Goals as goal
+
+pub returns-in-Of : goal.returns-in-Of
+unfolding written_words
+returns-in-Of c =
+    let all = answered _ (ap written_words c.in-Of.is) in
+    record { value = all.0; out_after = all.1 }
+
+pub returns-in-Refused : goal.returns-in-Refused
+unfolding written_words
+returns-in-Refused c =
+    let all = refused _ c.in-Refused.r _ (ap written_words c.in-Refused.is) c.code.ensures in
+    record { value = all.0; out_after = all.1 }

@@ -1,0 +1,10 @@
+-- The bytes left fall.
+use Prim.Native.Nat.{◌-◌}
+use lib.ListN.{length}
+use Rattle.write_cases.proofs.hexadecimal.Given as goal
+
+abbrev pub invariant-loop-i : goal.invariant-loop-i
+invariant-loop-i l = Unit
+
+abbrev pub decreases-loop-i : goal.decreases-loop-i
+decreases-loop-i l = length l.part - l.i
