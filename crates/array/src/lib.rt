@@ -1,5 +1,6 @@
 // Arrays in a file: elements by position, links by place.
 #![tactic(auto)]
+
 ghost use Rattle.std.specs.Prelude.{◌≡◌, ◌+◌, ◌≤◌, length};
 ghost use Rattle.open.specs.Format.{specs_array, infos_array, names_array};
 ghost use Rattle.array.specs.Element.{element_at, linked, Bounded};

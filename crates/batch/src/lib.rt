@@ -1,5 +1,6 @@
 // Many lookups in one block: one check of it, and then two searches for each pair of ids.
 #![tactic(auto)]
+
 ghost use Rattle.std.specs.Prelude.{◌≡◌, ◌+◌, ◌*◌, ◌/◌, ◌≤◌, length};
 ghost use Rattle.buffer.specs.Over.{over};
 ghost use Rattle.block.specs.Block.{lookup_words};

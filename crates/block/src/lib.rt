@@ -1,5 +1,6 @@
 // Sparse blocks of profile.db and cct.db: validated in one pass, searched by halving.
 #![tactic(auto)]
+
 ghost use Rattle.std.specs.Prelude.{true, [], ◌∷◌, ◌≡◌, ℕ, ◌+◌, ◌*◌, ◌-◌, ◌≤◌, ◌<◌, length};
 ghost use Rattle.le.specs.Number.{number};
 ghost use Rattle.seq.specs.declared.Position.TheVariants as Position;

@@ -1,6 +1,7 @@
 // Asks each file that a line of `list` names for a value or for totals, and prints the line with the answer. A line has the kind
 // (profile, cct or totals), the file's name, and three numbers: profile, context and metric; or context, metric and one unused.
 #![tactic(auto)]
+
 use block::Lookup;
 use libc::STDOUT_FILENO;
 use total::Totals;

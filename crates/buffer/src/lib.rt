@@ -1,5 +1,6 @@
 // Words written to lent slices.
 #![tactic(auto)]
+
 ghost use Rattle.std.specs.Prelude.{◌≡◌, ◌+◌, ◌≤◌, length, replicate};
 ghost use Rattle.buffer.specs.Over.{over};
 

@@ -1,5 +1,6 @@
 // Totals over one context and metric of cct.db.
 #![tactic(auto)]
+
 ghost use Rattle.std.specs.Prelude.{◌≡◌};
 ghost use Rattle.block.specs.Sound.{SoundBlock, SoundPart};
 ghost use Rattle.cct.specs.Totals.{part_totals, totals_in, cct_totals};

@@ -1,5 +1,6 @@
 // One context of meta.db: its rules, its fields.
 #![tactic(auto)]
+
 ghost use Rattle.std.specs.Prelude.{true, ◌≡◌, ◌+◌, ◌*◌, ◌≤◌, ◌<◌, length};
 ghost use Rattle.le.specs.Number.{number};
 ghost use Rattle.refusal.specs.Check.{either};

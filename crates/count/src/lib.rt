@@ -1,5 +1,6 @@
 // How many elements a file has.
 #![tactic(auto)]
+
 ghost use Rattle.std.specs.Prelude.{◌≡◌, ◌+◌, ◌≤◌, length};
 ghost use Rattle.open.specs.Format.{profile, cct, trace, infos_array};
 ghost use Rattle.array.specs.Stored.{array_of};

@@ -1,5 +1,6 @@
 // Old DCPI sample files: the binary section, validated in one pass before anything is answered.
 #![tactic(auto)]
+
 ghost use Rattle.std.specs.Prelude.{◌≡◌, ℕ, ◌+◌, ◌*◌, ◌^◌, ◌≤◌, ◌<◌, length};
 ghost use Rattle.refusal.specs.declared.Check.TheVariants as Check;
 ghost use Rattle.dcpi.specs.Samples.{total_offsets, total_samples, chunk_at, chunks, counts_from, sample_counts, non_zero, sum_of};

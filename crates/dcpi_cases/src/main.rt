@@ -2,6 +2,7 @@
 // line and the answer. A line has the name of a file, and then `totals`, or `lookup` and an offset, or `entries`, a profile, a metric and
 // how many bytes are lent. Those are 255 before, and are printed in rows of an entry's size, each with its place.
 #![tactic(auto)]
+
 use dcpi::{SampleCount, SampleTotals};
 use dcpi_entries::EntryCount;
 use libc::STDOUT_FILENO;

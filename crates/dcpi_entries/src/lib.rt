@@ -1,5 +1,6 @@
 // The non-zero counts of a DCPI sample file as entries for the writer of profile.db. Nothing is written before the last refusal is excluded.
 #![tactic(auto)]
+
 ghost use Rattle.std.specs.Prelude.{List, ◌++◌, ◌≡◌, ℕ, ◌+◌, ◌-◌, ◌*◌, ◌%◌, ◌^◌, ◌≤◌, ◌<◌, length};
 ghost use Rattle.refusal.specs.declared.Check.TheVariants as Check;
 ghost use Rattle.buffer.specs.Over.{over};

@@ -1,5 +1,6 @@
 // Flex words: which fields are present, and where.
 #![tactic(auto)]
+
 ghost use Rattle.std.specs.Prelude.{◌≡◌};
 ghost use Rattle.flex.specs.Names as Flex;
 ghost use Rattle.flex.specs.Packing.{is_present, before, place, words};

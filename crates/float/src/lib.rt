@@ -1,5 +1,6 @@
 // Floats by their 64 bits.
 #![tactic(auto)]
+
 ghost use Rattle.std.specs.Prelude.{◌≡◌};
 ghost use Rattle.float.specs.Float.{finite, integer_bits};
 

@@ -1,5 +1,6 @@
 // meta.db: functions.
 #![tactic(auto)]
+
 ghost use Rattle.std.specs.Prelude.{◌≡◌, ◌+◌};
 ghost use Rattle.le.specs.Number.{number};
 ghost use Rattle.open.specs.Format.{meta};

@@ -1,5 +1,6 @@
 // Looks for hot paths, as each line of `list` says. Prints the line, the answer, and every word of the path, the listing and the table.
 #![tactic(auto)]
+
 ghost use Rattle.std.specs.Prelude.{◌≤◌};
 
 use hot_path::HotPath;

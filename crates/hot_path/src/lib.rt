@@ -1,5 +1,6 @@
 // The hot path of two files: from the roots down, always to the child with the greatest value.
 #![tactic(auto)]
+
 ghost use Rattle.std.specs.Prelude.{true, List, [], ◌≡◌, ◌+◌, ◌≤◌, length};
 ghost use Rattle.float.specs.Float.{finite};
 ghost use Rattle.refusal.specs.declared.Check.TheVariants.{Passed};

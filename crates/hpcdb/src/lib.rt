@@ -1,6 +1,7 @@
 // The library as C programs call it: every entry point, with the answer's number as the result and its values in lent words. Nothing is
 // written where the number is not 0, but for the number of contexts that a walk listed.
 #![tactic(auto)]
+
 ghost use Rattle.std.specs.Prelude.{[], ◌∷◌, ◌≡◌, not, ◌≤◌, eqb, length};
 ghost use Rattle.refusal.specs.Check.{code_of};
 ghost use Rattle.refusal.specs.Words.{code_in};

@@ -1,5 +1,6 @@
 // Fixed bytes at a place of a file.
 #![tactic(auto)]
+
 ghost use Rattle.std.specs.Prelude.{◌≡◌, ◌+◌, ◌≤◌, length, take, drop};
 ghost use Rattle.layout.specs.Stands.{stands};
 

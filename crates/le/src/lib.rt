@@ -1,5 +1,6 @@
 // Little-endian numbers at a place of a file.
 #![tactic(auto)]
+
 ghost use Rattle.std.specs.Prelude.{true, ◌≡◌, ◌+◌, ◌^◌, ◌≤◌, ◌<◌, min, length};
 ghost use Rattle.le.specs.Number.{number};
 

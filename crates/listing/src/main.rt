@@ -1,5 +1,6 @@
 // Lists the contexts of the meta.db on standard input, up to 32,768 bytes, with room for 1,024.
 #![tactic(auto)]
+
 fn list(file: &[u8]) {
     let mut listing = [0u64; 1024];
     let mut table = [0u64; 1024];

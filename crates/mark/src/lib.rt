@@ -1,5 +1,6 @@
 // Marks of a walk, read and written.
 #![tactic(auto)]
+
 ghost use Rattle.std.specs.Prelude.{true, ◌≡◌, ◌+◌, ◌*◌, ◌≤◌, ◌<◌, length, get_or};
 ghost use Rattle.layout.specs.Bytes.{bytes, fields};
 ghost use Rattle.buffer.specs.Over.{over};

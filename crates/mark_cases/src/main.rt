@@ -1,6 +1,7 @@
 // Goes on with walks of meta.db from marks, as each line of `list` says. Prints the line, the answer, every word of the listing, the table
 // and the records, and the bytes lent for a new mark, up to the last that is not as it was.
 #![tactic(auto)]
+
 ghost use Rattle.std.specs.Prelude.{◌≤◌, length};
 
 use libc::STDOUT_FILENO;

@@ -1,5 +1,6 @@
 // meta.db: title and description, identifier kinds, modules, source files, and the counts of all arrays.
 #![tactic(auto)]
+
 ghost use Rattle.std.specs.Prelude.{◌≡◌};
 ghost use Rattle.refusal.specs.Check.{code_of};
 ghost use Rattle.open.specs.Format.{meta};

@@ -1,6 +1,7 @@
 // Reads all of each meta.db that `list` names but its contexts, and prints every name and number. Each array is asked for one position
 // more than it has. A line has what was asked, the answer's number, its values, and its string; after a refusal values are 0.
 #![tactic(auto)]
+
 use function::Function;
 use libc::STDOUT_FILENO;
 use meta::SourceFile;

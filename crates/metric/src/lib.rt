@@ -1,5 +1,6 @@
 // meta.db: metrics, their scopes, and the scopes' summaries.
 #![tactic(auto)]
+
 ghost use Rattle.std.specs.Prelude.{◌≡◌};
 ghost use Rattle.open.specs.Format.{meta};
 ghost use Rattle.open.specs.Kept.{Sections};

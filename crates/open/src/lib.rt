@@ -1,6 +1,7 @@
 // Opening the four files. The rules go in groups, front, sections and headers; one is looked at after those before it have passed, so
 // that what it reads is known to lie in the file.
 #![tactic(auto)]
+
 ghost use Rattle.std.specs.Prelude.{◌≡◌, [], ◌∷◌, ◌+◌, ◌-◌, ◌≤◌, length, get_or};
 ghost use Rattle.refusal.specs.Check.{code_of, rule, first};
 ghost use Rattle.refusal.specs.declared.Refusal.TheVariants as No;

@@ -1,6 +1,7 @@
 // Opens each file that `list` names, by the kind that its name starts with, and prints what opening answers: the number, then
 // place and size of each section.
 #![tactic(auto)]
+
 use libc::STDOUT_FILENO;
 
 fn word(n: u64) {

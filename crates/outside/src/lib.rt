@@ -1,5 +1,6 @@
 // Data that lies outside the sections of a file.
 #![tactic(auto)]
+
 ghost use Rattle.std.specs.Prelude.{[], ◌∷◌, ◌≡◌, ◌*◌, get_or};
 ghost use Rattle.outside.specs.Outside.{apart, lies};
 

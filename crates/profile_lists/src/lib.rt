@@ -1,5 +1,6 @@
 // The lists that a profile.db is written from, as they are lent, and their check: everything is decided here before a byte is written.
 #![tactic(auto)]
+
 ghost use Rattle.std.specs.Prelude.{◌≡◌, ℕ, suc, ◌+◌, ◌*◌, ◌^◌, ◌≤◌, ◌<◌, min, leb, ltb, length};
 ghost use Rattle.layout.specs.Many.{many};
 ghost use Rattle.refusal.specs.declared.Refusal.TheVariants as No;

@@ -1,5 +1,6 @@
 // A profile.db, written from lent lists. Nothing is written before the last refusal is excluded.
 #![tactic(auto)]
+
 ghost use Rattle.std.specs.Prelude.{true, [], ◌∷◌, ◌++◌, ◌≡◌, ℕ, ◌+◌, ◌*◌, ◌^◌, ◌≤◌, ◌<◌, length};
 ghost use Rattle.le.specs.Number.{number};
 ghost use Rattle.refusal.specs.declared.Check.TheVariants as Check;

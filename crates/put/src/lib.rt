@@ -1,5 +1,6 @@
 // Numbers and texts written to lent bytes.
 #![tactic(auto)]
+
 ghost use Rattle.std.specs.Prelude.{◌≡◌, ◌+◌, ◌≤◌, length};
 ghost use Rattle.layout.specs.Bytes.{bytes};
 ghost use Rattle.buffer.specs.Over.{over};

@@ -1,5 +1,6 @@
 // Ranges of bytes and multiples. The definitions are on exact numbers; the code makes no sum and no product that could wrap.
 #![tactic(auto)]
+
 ghost use Rattle.std.specs.Prelude.{◌≡◌, ◌+◌, ◌*◌, leb};
 ghost use Rattle.range.specs.Range.{within, multiple};
 

@@ -1,6 +1,7 @@
 // Asks each file that a line of `list` names for a count, a tuple or a trace line, and prints the line with the answer. A line has the
 // kind (profiles, contexts, lines, tuple, identifier, header, sample or at), the file's name, and two numbers, 0 where not used.
 #![tactic(auto)]
+
 use count::Count;
 use libc::STDOUT_FILENO;
 use trace::{Line, Sample};

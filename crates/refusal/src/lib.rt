@@ -1,5 +1,6 @@
 // Refusals, and checks that end in one or pass.
 #![tactic(auto)]
+
 ghost use Rattle.std.specs.Prelude.{◌≡◌};
 ghost use Rattle.refusal.specs.Number.{number_of};
 ghost use Rattle.refusal.specs.Check.{code_of, rule, first};

@@ -1,6 +1,7 @@
 // Prints walks of meta.db, as the listing program does. What is printed, no contract can say; what is answered and left in memory, they
 // do.
 #![tactic(auto)]
+
 ghost use Rattle.std.specs.Prelude.{◌≡◌, ltb, length};
 ghost use Rattle.traversal.specs.Walk.{number_listed, slices, Leaves};
 

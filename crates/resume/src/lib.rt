@@ -2,6 +2,7 @@
 // record its parent and the new mark its numbers. What is counted on the way are the marks passed from the given one on, itself among them, so
 // that 0 says that it is not passed yet; the numbers in the answers of `visit_answer`, `contexts` and `walk_in` are these.
 #![tactic(auto)]
+
 ghost use Rattle.std.specs.Prelude.{true, ◌||◌, not, [], ◌≡◌, suc, ◌+◌, ◌≤◌, ◌<◌, eqb, leb, length, set, replicate};
 ghost use Rattle.refusal.specs.Check.{either};
 ghost use Rattle.open.specs.Format.{meta};

@@ -1,5 +1,6 @@
 // The search for a byte.
 #![tactic(auto)]
+
 ghost use Rattle.std.specs.Prelude.{◌+◌, ◌≤◌, ◌≡◌, leb, length, drop};
 ghost use Rattle.scan.specs.Until.{until};
 

@@ -1,5 +1,6 @@
 // Parts of a text: what the programs that run cases read their lists with.
 #![tactic(auto)]
+
 ghost use Rattle.std.specs.Prelude.{◌≡◌, ◌+◌, ◌-◌, ◌*◌, ◌^◌, ◌≤◌, min, length};
 ghost use Rattle.script.specs.Line.{part_at, decimal};
 

@@ -1,5 +1,6 @@
 // Opens the meta.db on standard input and prints its sections with their places and sizes, or the refusal's number.
 #![tactic(auto)]
+
 use libc::STDOUT_FILENO;
 
 const MOST: usize = 32768;

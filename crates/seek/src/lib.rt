@@ -1,6 +1,7 @@
 // Finds the context of a mark on a traversal, without its path at hand: by how many levels of the mark's path the way down is on, and how
 // many siblings of the next level were visited, counted up to one more than the mark's number there.
 #![tactic(auto)]
+
 ghost use Rattle.std.specs.Prelude.{true, ◌≡◌, ◌<◌, length};
 ghost use Rattle.mark.specs.Mark.{decode, is_named, path_in};
 ghost use Rattle.seek.specs.Seek.{stepped};

@@ -1,5 +1,6 @@
 // Strings in a section of a file.
 #![tactic(auto)]
+
 ghost use Rattle.std.specs.Prelude.{◌≡◌, length, take, drop};
 ghost use Rattle.text.specs.String.{bytes_from, string_at, text_code, text_bytes};
 

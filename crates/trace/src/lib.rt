@@ -1,5 +1,6 @@
 // Trace lines of trace.db: validated in one pass, searched by halving.
 #![tactic(auto)]
+
 ghost use Rattle.std.specs.Prelude.{[], ◌∷◌, true, ◌≡◌, ◌+◌, ◌-◌, ◌*◌, ◌≤◌, ◌<◌, leb, length, get_or};
 ghost use Rattle.open.specs.Format.{infos_array};
 ghost use Rattle.array.specs.Element.{Bounded};

@@ -1,5 +1,6 @@
 // Identifier tuples of profile.db.
 #![tactic(auto)]
+
 ghost use Rattle.std.specs.Prelude.{[], ◌∷◌, ◌≡◌, ◌+◌, ◌≤◌, length, get_or};
 ghost use Rattle.open.specs.Format.{infos_array};
 ghost use Rattle.array.specs.Element.{Bounded};

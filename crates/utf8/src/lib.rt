@@ -1,5 +1,6 @@
 // Text in UTF-8, up to its NUL.
 #![tactic(auto)]
+
 ghost use Rattle.std.specs.Prelude.{◌≡◌, true, [], ◌∷◌, ◌+◌, ◌≤◌, ◌<◌, length, drop};
 ghost use Rattle.utf8.specs.Grammar.{◌to◌, continuation, multibyte, in_range, size_if, char_size};
 ghost use Rattle.utf8.specs.Terminated.{terminated};

@@ -1,5 +1,6 @@
 // One context of a walk: the checks of a visit, and its record.
 #![tactic(auto)]
+
 ghost use Rattle.std.specs.Prelude.{◌≡◌, length};
 ghost use Rattle.context.specs.Sound.{targets_in, Readable};
 ghost use Rattle.traversal.specs.Traversal.{slot_check};

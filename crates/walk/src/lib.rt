@@ -1,5 +1,6 @@
 // The walk of a file's contexts: a context leads into its array of children, and an array into its contexts.
 #![tactic(auto)]
+
 ghost use Rattle.std.specs.Prelude.{true, [], ◌≡◌, suc, ◌+◌, ◌≤◌, ◌<◌, length};
 ghost use Rattle.open.specs.Format.{meta};
 ghost use Rattle.open.specs.Kept.{Sections};

@@ -1,6 +1,7 @@
 // Walks each meta.db that a line of `list` names, with a listing and a table of as many words as the line says, and prints what the
 // listing program prints, the flex fields of the listed contexts that have some, and the table's slots that are not 0.
 #![tactic(auto)]
+
 ghost use Rattle.std.specs.Prelude.{◌≤◌};
 
 use context::{PARENT, RECORD};

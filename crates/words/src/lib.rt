@@ -1,5 +1,6 @@
 // Answers as C programs take them: the number as the result, and the values in lent words where the number is 0.
 #![tactic(auto)]
+
 ghost use Rattle.std.specs.Prelude.{◌∷◌, ◌≡◌};
 ghost use Rattle.refusal.specs.Number.{number_of};
 ghost use Rattle.refusal.specs.Check.{either};

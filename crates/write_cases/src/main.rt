@@ -3,6 +3,7 @@
 // many bytes of them are lent (behind the file's own they are 0), the name of a file of entries and how many bytes are lent to be written;
 // the number of each profile's tuple; how many identifications each tuple has.
 #![tactic(auto)]
+
 ghost use Rattle.std.specs.Prelude.{◌≡◌, length};
 
 use libc::STDOUT_FILENO;

@@ -23,12 +23,11 @@ returns-then-start_of-ne0 c =
     start_fails c.args.file.now c.args.h c.args.b (λ e. c.if-start_of-ne0.true (c.start_of.ensures ∙ e))
 
 pub loop-i-init : goal.loop-i-init
-loop-i-init c =
-    (
-      rising_start 0 1 (outer_ids c.args.file.now c.args.h c.args.b) c.args.b.count,
-      every_none (part_rule c.args.file.now c.args.h c.args.b),
-      λ l. sym c.if-start_of-ne0.false ∙ c.start_of.ensures,
-    )
+loop-i-init c = (
+  rising_start 0 1 (outer_ids c.args.file.now c.args.h c.args.b) c.args.b.count,
+  every_none (part_rule c.args.file.now c.args.h c.args.b),
+  λ l. sym c.if-start_of-ne0.false ∙ c.start_of.ensures,
+)
 
 pub id_at-id-requires : goal.id_at-id-requires
 id_at-id-requires c =

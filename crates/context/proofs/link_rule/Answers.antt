@@ -15,11 +15,11 @@ pub returns-then-present : goal.returns-then-present
 unfolding link_rule either
 returns-then-present c =
     rw (
-  ← c.requires.present_value,
-  c.if-present.true,
-  c.is_element.ensures,
-  c.present_word-link.ensures,
-)
+      ← c.requires.present_value,
+      c.if-present.true,
+      c.is_element.ensures,
+      c.present_word-link.ensures,
+    )
 
 pub returns : goal.returns
 unfolding link_rule either

@@ -23,8 +23,7 @@ loop-n-smaller c =
 
 pub loop-n-preserved : goal.loop-n-preserved
 loop-n-preserved c =
-    let long = length-set c.loop-n.places c.loop-n.n c.in-At.place in
-    (
+    let long = length-set c.loop-n.places c.loop-n.n c.in-At.place in (
       long ∙ c.loop-n.invariant.0,
       omega (arith, c.loop-n-test.true),
       λ l k. descending_more c.args.meta.now _ l k (c.loop-n.invariant.2 l k) (omega (arith, c.loop-n-test.true)) (omega (arith, c.loop-n-test.true, c.loop-n.invariant.0, c.requires.depth_limit_in_bounds)) _

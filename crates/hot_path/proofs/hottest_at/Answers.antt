@@ -37,11 +37,10 @@ overflow_add-stop c =
     omega (arith, end, c.requires.array_inside.ends)
 
 pub loop-p-init : goal.loop-p-init
-loop-p-init c =
-    (
-      end_read c.args.meta.now c.args.at c.load_u64-p.ensures c.load_u64-bytes.ensures,
-      rw (place_read c.args.meta.now c.args.at c.load_u64-p.ensures) (seeking_start c.args.meta.now _ c.args.at c.requires.array_inside),
-    )
+loop-p-init c = (
+  end_read c.args.meta.now c.args.at c.load_u64-p.ensures c.load_u64-bytes.ensures,
+  rw (place_read c.args.meta.now c.args.at c.load_u64-p.ensures) (seeking_start c.args.meta.now _ c.args.at c.requires.array_inside),
+)
 
 pub overflow_add-p : goal.overflow_add-p
 overflow_add-p c =
@@ -88,8 +87,7 @@ loop-p-smaller c =
 pub loop-p-preserved : goal.loop-p-preserved
 loop-p-preserved c =
     let e = value_read c.args.db.now c.args.b c.args.meta.now c.loop-p.p c.args.metric c.find_near-answer.ensures c.profile_shape-h.ensures c.load_u32-id.ensures in
-    let below : c.loop-p.p < children_end c.args.meta.now c.args.at = omega (arith, c.loop-p.invariant.0, c.loop-p-test.true) in
-    (
+    let below : c.loop-p.p < children_end c.args.meta.now c.args.at = omega (arith, c.loop-p.invariant.0, c.loop-p-test.true) in (
       c.loop-p.invariant.0,
       rw c.extent-p.ensures (⊎_elim
           (λ w. rw (w.6, w.5.ensures)

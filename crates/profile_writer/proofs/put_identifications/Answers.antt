@@ -10,12 +10,11 @@ use Rattle.put.proofs.Fields.{over_many_none, over_many_more}
 use Rattle.profile_writer.proofs.put_identifications.Goals as goal
 
 pub loop-j-init : goal.loop-j-init
-loop-j-init c =
-    (
-      omega arith,
-      refl,
-      over_many_none (identification_bytes (tuples_in c.args.tuples.now c.args.identifiers.now) c.args.t) c.args.file.now c.args.at,
-    )
+loop-j-init c = (
+  omega arith,
+  refl,
+  over_many_none (identification_bytes (tuples_in c.args.tuples.now c.args.identifiers.now) c.args.t) c.args.file.now c.args.at,
+)
 
 pub loop-j-preserved : goal.loop-j-preserved
 unfolding identification_bytes

@@ -16,13 +16,12 @@ use Rattle.profile_writer.specs.Table.{place_of_tuple}
 use Rattle.profile_writer.proofs.put_places.Goals as goal
 
 pub loop-t-init : goal.loop-t-init
-loop-t-init c =
-    (
-      omega arith,
-      refl,
-      omega (arith, sum_none (word_of c.args.tuples.now)),
-      over_many_none (λ (k : ℕ). bytes 8 (place_of_tuple c.args.tuples.now c.args.at k)) c.args.file.now c.args.at,
-    )
+loop-t-init c = (
+  omega arith,
+  refl,
+  omega (arith, sum_none (word_of c.args.tuples.now)),
+  over_many_none (λ (k : ℕ). bytes 8 (place_of_tuple c.args.tuples.now c.args.at k)) c.args.file.now c.args.at,
+)
 
 pub overflow_add-place : goal.overflow_add-place
 overflow_add-place c =
