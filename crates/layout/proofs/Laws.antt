@@ -76,7 +76,7 @@ field-at {file} {at} (f ∷ fs) zero h l m = rw add-zero (read f.width f.holds (
 field-at {file} {at} (f ∷ fs) (suc i) h l m =
     let g : Stands file (at + f.width) (fields fs) = moved (at + f.width) (ap (λ (k : ℕ). at + k) (length_bytes f.width f.holds))
     (right file at (bytes f.width f.holds) (fields fs) h) in
-    let r = field-at fs i g (le_of_suc-le-suc l) m in
+    let r = field-at {at = at + f.width} fs i g (le_of_suc-le-suc l) m in
     let e : at + (f.width + offset fs i) ≡ at + f.width + offset fs i = omega arith in
     rw e r
 
@@ -87,7 +87,7 @@ part-at [] i h l = absurd (not-suc-le-zero l)
 part-at {file} {at} (p ∷ ps) zero h l = rw add-zero (left file at p (join ps) h)
 part-at {file} {at} (p ∷ ps) (suc i) h l =
     let e : at + (length p + before ps i) ≡ at + length p + before ps i = omega arith in
-    rw e (part-at ps i (right file at p (join ps) h) (le_of_suc-le-suc l))
+    rw e (part-at {at = at + length p} ps i (right file at p (join ps) h) (le_of_suc-le-suc l))
 
 pub length_join : (ps : List (List ℕ)) → length (join ps) ≡ before ps (length ps)
 unfolding join

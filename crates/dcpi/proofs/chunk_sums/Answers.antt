@@ -27,7 +27,7 @@ overflow_add-zeros c =
 
 pub overflow_add-sum : goal.overflow_add-sum
 overflow_add-sum c =
-    omega (arith, c.loop-i.invariant.small, c.packed_u32-count.type-inv)
+    omega (arith, c.loop-i.invariant.small, c.packed_u32-count.type_inv)
 
 pub overflow_add-i : goal.overflow_add-i
 overflow_add-i c =
@@ -39,8 +39,8 @@ loop-i-smaller c =
 
 pub loop-i-preserved : goal.loop-i-preserved
 loop-i-preserved c =
-    ⊎_elim (λ w. rw w.1 (summed_zero _ _ _ c.loop-i.invariant c.loop-i-test.true c.packed_u32-count.result c.packed_u32-count.ensures (omega (arith, c.packed_u32-count.type-inv)) (omega arith) (omega (arith, w.0.taken))))
-    (λ w. rw w.1 (summed_more _ _ _ c.loop-i.invariant c.loop-i-test.true c.packed_u32-count.result c.packed_u32-count.ensures (omega (arith, c.packed_u32-count.type-inv)) (omega arith) (λ q. omega (arith, w.0.left))))
+    ⊎_elim (λ w. rw w.1 (summed_zero _ _ _ c.loop-i.invariant c.loop-i-test.true c.packed_u32-count.result c.packed_u32-count.ensures (omega (arith, c.packed_u32-count.type_inv)) (omega arith) (omega (arith, w.0.taken))))
+    (λ w. rw w.1 (summed_more _ _ _ c.loop-i.invariant c.loop-i-test.true c.packed_u32-count.result c.packed_u32-count.ensures (omega (arith, c.packed_u32-count.type_inv)) (omega arith) (λ q. omega (arith, w.0.left))))
     c.if-count-eq0.branch
 
 pub overflow_sub-nonzero : goal.overflow_sub-nonzero
@@ -49,5 +49,10 @@ overflow_sub-nonzero c =
 
 pub returns : goal.returns
 returns c =
-    let all = summed_all _ _ _ c.loop-i.invariant c.loop-i-test.false in let all = (λ offset. (all offset).0, (λ offset. (all offset).1, (omega arith, omega (arith, c.loop-i.invariant.small, c.loop-i.invariant.within)))) in
-    record { nonzero = all.0; sum = all.1.0; few = all.1.1.0; small = all.1.1.1 }
+    let all = summed_all _ _ _ c.loop-i.invariant c.loop-i-test.false in
+    record {
+      nonzero = λ offset. (all offset).0;
+      sum = λ offset. (all offset).1;
+      few = omega arith;
+      small = omega (arith, c.loop-i.invariant.small, c.loop-i.invariant.within);
+    }

@@ -7,5 +7,7 @@ use Rattle.total.proofs.add.Goals as goal
 pub returns : goal.returns
 unfolding step_of either
 returns c =
-    let all = (λ id. rw (c.requires.least_value, c.requires.bits_value_2, c.plus.ensures), good_next c.args.t 0 c.args.bits c.requires.good c.requires.bits_value (rw (c.requires.least_value, c.requires.bits_value_2, c.plus.ensures))) in
-    record { by_index = all.0; good_2 = all.1 }
+    record {
+      by_index = λ id. rw (c.requires.least_value, c.requires.bits_value_2, c.plus.ensures);
+      good_2 = good_next c.args.t 0 c.args.bits c.requires.good c.requires.bits_value (rw (c.requires.least_value, c.requires.bits_value_2, c.plus.ensures));
+    }
