@@ -50,13 +50,13 @@ end_of-end-requires c =
 pub returns-then-not-part_rule : goal.returns-then-not-part_rule
 returns-then-not-part_rule c =
     let told = c.part_rule.ensures c.loop-i.i (c.loop-i.invariant.2 c.loop-i-test.true) c.end_of-end.ensures in
-    part_fails c.args.file.now c.args.h c.args.b c.loop-i.i c.loop-i-test.true (sym told ∙ not-true _ c.if-not-part_rule.true)
+    part_fails c.args.file.now c.args.h c.args.b c.loop-i.i c.loop-i-test.true (sym told ∙ c.if-not-part_rule.true)
 
 pub loop-i-preserved : goal.loop-i-preserved
 loop-i-preserved c =
     let told = c.part_rule.ensures c.loop-i.i (c.loop-i.invariant.2 c.loop-i-test.true) c.end_of-end.ensures in (
       rw c.id_at-id.ensures.value (rising_more c.loop-i.invariant.0 c.loop-i-test.true (rw c.id_at-id.ensures.value at c.if-id-low.false)),
-      every_more (part_rule c.args.file.now c.args.h c.args.b) c.loop-i.i c.loop-i.invariant.1 (sym told ∙ not-false _ c.if-not-part_rule.false),
+      every_more (part_rule c.args.file.now c.args.h c.args.b) c.loop-i.i c.loop-i.invariant.1 (sym told ∙ c.if-not-part_rule.false),
       λ l. c.end_of-end.ensures ∙ inner_end c.args.file.now c.args.h c.args.b c.loop-i.i l,
     )
 

@@ -60,13 +60,13 @@ pub returns-then-not-is_finite : goal.returns-then-not-is_finite
 returns-then-not-is_finite c =
     let e = value_read c.args.db.now c.args.b c.args.meta.now c.loop-p.p c.args.metric c.find_near-answer.ensures c.profile_shape-h.ensures c.load_u32-id.ensures in
     sym (seeking_not c.args.meta.now _ c.args.at c.loop-p.invariant.1 (omega (arith, c.loop-p.invariant.0, c.loop-p-test.true)) _ (e ∙ c.in-Found.is)
-    (sym c.is_finite.ensures ∙ not-true _ c.if-not-is_finite.true))
+    (sym c.is_finite.ensures ∙ c.if-not-is_finite.true))
 
 pub lead_with-lead-requires : goal.lead_with-lead-requires
 lead_with-lead-requires c =
     record {
       bits_value = c.loop-p.invariant.1.leads.lead_finite;
-      bits_value_2 = sym c.is_finite.ensures ∙ not-false _ c.if-not-is_finite.false;
+      bits_value_2 = sym c.is_finite.ensures ∙ c.if-not-is_finite.false;
     }
 
 pub extent-p-requires : goal.extent-p-requires

@@ -12,9 +12,9 @@ returns-then-file-header c =
 
 pub returns-then-not-has_fourteen : goal.returns-then-not-has_fourteen
 returns-then-not-has_fourteen c =
-    long_enough _ _ _ c.if-file-header.false (after_refused _ (rule_broken No.Magic (sym c.has_fourteen.ensures ∙ not-true _ c.if-not-has_fourteen.true)))
+    long_enough _ _ _ c.if-file-header.false (after_refused _ (rule_broken No.Magic (sym c.has_fourteen.ensures ∙ c.if-not-has_fourteen.true)))
 
 pub returns : goal.returns
 returns c =
     long_enough _ _ _ c.if-file-header.false
-    (after_passed ((rule_passes _ No.Magic).1 (sym c.has_fourteen.ensures ∙ not-false _ c.if-not-has_fourteen.false)) (rw (c.rule.ensures, c.load_u8.ensures)))
+    (after_passed ((rule_passes _ No.Magic).1 (sym c.has_fourteen.ensures ∙ c.if-not-has_fourteen.false)) (rw (c.rule.ensures, c.load_u8.ensures)))

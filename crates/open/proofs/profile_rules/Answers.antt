@@ -10,7 +10,7 @@ use Rattle.open.proofs.profile_rules.Goals as goal
 
 pub infos_header-requires : goal.infos_header-requires
 infos_header-requires c =
-    kept_header 48 c.args.file.now 13 8 (place_in c.args.t2 0) (size_in c.args.t2 0) (sym c.section_rule-infos.ensures ∙ ((both _ _).0 c.if-infos-tuples.true).0) (omega arith)
+    kept_header 48 c.args.file.now 13 8 (place_in c.args.s 0) (size_in c.args.s 0) (sym c.section_rule-infos.ensures ∙ ((both _ _).0 c.if-infos-tuples.true).0) (omega arith)
 
 pub returns-then-infos-tuples : goal.returns-then-infos-tuples
 unfolding in_order header_check

@@ -8,7 +8,7 @@ use Rattle.open.proofs.single_rules.Goals as goal
 
 pub infos_header-requires : goal.infos_header-requires
 infos_header-requires c =
-    kept_header 32 c.args.file.now 13 8 (place_in c.args.t3 0) (size_in c.args.t3 0) (sym c.section_rule.ensures ∙ c.if-section_rule.true) (omega arith)
+    kept_header 32 c.args.file.now 13 8 (place_in c.args.s 0) (size_in c.args.s 0) (sym c.section_rule.ensures ∙ c.if-section_rule.true) (omega arith)
 
 pub returns-then-section_rule : goal.returns-then-section_rule
 unfolding in_order header_check

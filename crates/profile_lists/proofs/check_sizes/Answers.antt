@@ -15,7 +15,7 @@ pub returns-then-not-all_below : goal.returns-then-not-all_below
 unfolding sizes_fit
 returns-then-not-all_below c =
     let survey = survey_of c.args.profiles.now c.args.tuples.now c.args.identifiers.now c.args.entries.now in
-    large_tuples survey c.args.room (sym c.all_below.ensures ∙ not-true _ c.if-not-all_below.true)
+    large_tuples survey c.args.room (sym c.all_below.ensures ∙ c.if-not-all_below.true)
 
 pub returns : goal.returns
 unfolding sizes_fit
@@ -30,4 +30,4 @@ returns c =
       c.measure-blocks.ensures.bytes,
       c.requires.identifications_value,
     )
-    (sym (sizes_left survey c.args.room c.if-profiles-ge4294967296.false (sym c.all_below.ensures ∙ not-false _ c.if-not-all_below.false)))
+    (sym (sizes_left survey c.args.room c.if-profiles-ge4294967296.false (sym c.all_below.ensures ∙ c.if-not-all_below.false)))

@@ -10,22 +10,22 @@ use Rattle.resume.proofs.visit_answer.Goals as goal
 pub returns-then-not-context_rule : goal.returns-then-not-context_rule
 unfolding visit_answer rule first if_passed
 returns-then-not-context_rule c =
-    rw (sym c.context_rule.ensures ∙ not-true _ c.if-not-context_rule.true)
+    rw (sym c.context_rule.ensures ∙ c.if-not-context_rule.true)
 
 pub visit_check-check-requires : goal.visit_check-check-requires
 visit_check-check-requires c =
-    readable c.args.file.now c.args.here.p c.args.here.end (sym c.context_rule.ensures ∙ not-false _ c.if-not-context_rule.false) c.requires.2
+    readable c.args.file.now c.args.here.p c.args.here.end (sym c.context_rule.ensures ∙ c.if-not-context_rule.false) c.requires.2
 
 pub returns-in-Refused : goal.returns-in-Refused
 unfolding visit_answer rule first if_passed
 returns-in-Refused c =
-    rw (sym c.context_rule.ensures ∙ not-false _ c.if-not-context_rule.false, sym c.visit_check-check.ensures ∙ c.in-Refused.is)
+    rw (sym c.context_rule.ensures ∙ c.if-not-context_rule.false, sym c.visit_check-check.ensures ∙ c.in-Refused.is)
 
 pub returns-then-words-k : goal.returns-then-words-k
 unfolding visit_answer rule first if_passed either
 returns-then-words-k c =
     rw (
-      sym c.context_rule.ensures ∙ not-false _ c.if-not-context_rule.false,
+      sym c.context_rule.ensures ∙ c.if-not-context_rule.false,
       sym c.visit_check-check.ensures ∙ c.in_default.is,
       lt-leb c.args.k c.args.words c.if-words-k.true,
     )
@@ -34,7 +34,7 @@ pub returns : goal.returns
 unfolding visit_answer rule first if_passed either
 returns c =
     rw (
-      sym c.context_rule.ensures ∙ not-false _ c.if-not-context_rule.false,
+      sym c.context_rule.ensures ∙ c.if-not-context_rule.false,
       sym c.visit_check-check.ensures ∙ c.in_default.is,
       le-leb c.args.k c.args.words (omega (arith, c.if-words-k.false)),
     )

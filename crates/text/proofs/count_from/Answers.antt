@@ -10,16 +10,16 @@ returns-then-place-start c =
 
 pub returns-then-n-place : goal.returns-then-n-place
 returns-then-n-place c =
-    omega (arith, count c.args.file.now c.args.t2 c.args.place c.if-place-start.false)
+    omega (arith, count c.args.file.now c.args.section c.args.place c.if-place-start.false)
 
 pub returns-then-size-place : goal.returns-then-size-place
 returns-then-size-place c =
-    omega (arith, count c.args.file.now c.args.t2 c.args.place c.if-place-start.false)
+    omega (arith, count c.args.file.now c.args.section c.args.place c.if-place-start.false)
 
 pub returns-then-in_section-n : goal.returns-then-in_section-n
 returns-then-in_section-n c =
-    omega (arith, count c.args.file.now c.args.t2 c.args.place c.if-place-start.false)
+    omega (arith, count c.args.file.now c.args.section c.args.place c.if-place-start.false)
 
 pub returns-else-in_section-n : goal.returns-else-in_section-n
 returns-else-in_section-n c =
-    omega (arith, count c.args.file.now c.args.t2 c.args.place c.if-place-start.false)
+    omega (arith, count c.args.file.now c.args.section c.args.place c.if-place-start.false)

@@ -30,7 +30,7 @@ overflow_add-k c =
 
 pub loop-k-preserved : goal.loop-k-preserved
 loop-k-preserved c =
-    known_four c.loop-k.invariant c.loop-k-test.true (c.four_rise.ensures (not-false _ c.if-not-four_rise.false))
+    known_four c.loop-k.invariant c.loop-k-test.true (c.four_rise.ensures (c.if-not-four_rise.false))
 
 pub returns : goal.returns
 returns c =

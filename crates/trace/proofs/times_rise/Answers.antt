@@ -42,12 +42,12 @@ time_at-time-requires c =
 
 pub returns-then-not-follows : goal.returns-then-not-follows
 returns-then-not-follows c =
-    let after = leb-false (c.loop-k.last + c.args.gap) c.time_at-time.result (sym c.follows.ensures ∙ not-true _ c.if-not-follows.true) in
+    let after = leb-false (c.loop-k.last + c.args.gap) c.time_at-time.result (sym c.follows.ensures ∙ c.if-not-follows.true) in
     sym (rising_not c.loop-k.invariant c.loop-k-test.true (rw c.time_at-time.ensures at after))
 
 pub loop-k-preserved : goal.loop-k-preserved
 loop-k-preserved c =
-    let after = leb-true (c.loop-k.last + c.args.gap) c.time_at-time.result (sym c.follows.ensures ∙ not-false _ c.if-not-follows.false) in
+    let after = leb-true (c.loop-k.last + c.args.gap) c.time_at-time.result (sym c.follows.ensures ∙ c.if-not-follows.false) in
     rw c.time_at-time.ensures (rising_more c.loop-k.invariant c.loop-k-test.true (rw c.time_at-time.ensures at after))
 
 pub returns : goal.returns

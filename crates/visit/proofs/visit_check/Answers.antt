@@ -9,19 +9,19 @@ use Rattle.visit.proofs.visit_check.Goals as goal
 pub returns-then-not-links_rule : goal.returns-then-not-links_rule
 unfolding checks_after10 rule first
 returns-then-not-links_rule c =
-    rw (sym c.links_rule.ensures ∙ not-true _ c.if-not-links_rule.true)
+    rw (sym c.links_rule.ensures ∙ c.if-not-links_rule.true)
 
 pub returns-then-not-children_rule : goal.returns-then-not-children_rule
 unfolding checks_after10 rule first
 returns-then-not-children_rule c =
-    rw (sym c.links_rule.ensures ∙ not-false _ c.if-not-links_rule.false, sym c.children_rule.ensures ∙ not-true _ c.if-not-children_rule.true)
+    rw (sym c.links_rule.ensures ∙ c.if-not-links_rule.false, sym c.children_rule.ensures ∙ c.if-not-children_rule.true)
 
 pub returns : goal.returns
 unfolding checks_after10 rule first field
 returns c =
     rw (
-      sym c.links_rule.ensures ∙ not-false _ c.if-not-links_rule.false,
-      sym c.children_rule.ensures ∙ not-false _ c.if-not-children_rule.false,
+      sym c.links_rule.ensures ∙ c.if-not-links_rule.false,
+      sym c.children_rule.ensures ∙ c.if-not-children_rule.false,
       c.slot_check.ensures,
       c.load_u32-id.ensures,
     )
