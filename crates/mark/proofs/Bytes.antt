@@ -184,7 +184,7 @@ read_numbers [] s h = refl
 read_numbers {m} {at} (x ∷ xs) s h =
     let rest = fields (number_fields xs) in
     ap₂ ◌∷◌ (read 4 x (left m at (bytes 4 x) rest s) h.0)
-    (read_numbers xs (moved (at + 4) (ap (λ (k : ℕ). at + k) (length_bytes 4 x)) (right m at (bytes 4 x) rest s)) h.1)
+    (read_numbers {at = at + 4} xs (moved (at + 4) (ap (λ (k : ℕ). at + k) (length_bytes 4 x)) (right m at (bytes 4 x) rest s)) h.1)
 
 module _ (path : List ℕ) where
   abbrev fs : List Field
