@@ -13,10 +13,11 @@ use Rattle.refusal.specs.declared.Refusal.TheVariants as No
 use Rattle.refusal.specs.declared.Check.TheVariants.{Passed}
 use Rattle.refusal.specs.Check.{rule}
 use Rattle.refusal.proofs.Checks.{rule_passes, first_passes}
-use Rattle.open.specs.Opening.{field}
-use Rattle.context.specs.Context.{ctx_id, context_rule, links_rule, children_rule}
+use Rattle.open.specs.Opening.{field, pairs}
+use Rattle.context.specs.Context.{ctx_id, context_rule, links_rule, children_rule, targets_of}
 use Rattle.context.specs.Entry.{Entry, entry_at}
-use Rattle.traversal.specs.Traversal.{Asked, list_of, Parameters, seen, slot_check, visit_check, depth_limit, traversal}
+use Rattle.open.specs.Format.{meta}
+use Rattle.traversal.specs.Traversal.{Asked, list_of, Parameters, seen, slot_check, visit_check, depth_limit, traversal, endless}
 use Rattle.traversal.proofs.Keeps.{snoc, somewhere, keeps_traversal}
 use Rattle.traversal.proofs.Table.{id_of}
 
@@ -75,6 +76,6 @@ ids_enter E parent path p stop l v h =
 
 pub traversal_ids : (a : Asked) → Ids a.lent.slots (list_of (traversal a))
 traversal_ids a =
-    (somewhere _ _ [] (traversal a) (keeps_traversal a (λ ups i l. Ids a.lent.slots l)
+    (somewhere (endless a (targets_of a.file (pairs meta a.file))) (λ ups i l. Ids a.lent.slots l) [] (traversal a) (keeps_traversal a (λ ups i l. Ids a.lent.slots l)
     (record { enters = λ parent ups i p stop l v h. ids_enter _ parent (snoc ups i) p stop l v h; leaves = λ ups i j l h. h })
     (record { distinct = tt; below = tt }))).1.1

@@ -9,7 +9,10 @@ use Rattle.seq.specs.Lists.{All, Ordered, Differs, Distinct}
 use Rattle.seq.proofs.Lists.{all_imp, all_append, ordered_imp, ordered_snoc}
 use Rattle.refusal.specs.declared.Check.TheVariants.{Passed}
 use Rattle.context.specs.Entry.{Entry, entry_at}
-use Rattle.traversal.specs.Traversal.{Asked, list_of, Parameters, visit_check, traversal}
+use Rattle.open.specs.Format.{meta}
+use Rattle.open.specs.Opening.{pairs}
+use Rattle.context.specs.Context.{targets_of}
+use Rattle.traversal.specs.Traversal.{Asked, list_of, Parameters, visit_check, traversal, endless}
 use Rattle.traversal.specs.From.{path_of, marks_of}
 use Rattle.traversal.proofs.Keeps.{snoc, somewhere, keeps_traversal}
 
@@ -75,7 +78,7 @@ rise_leaves ups i j l r = record {
 
 pub paths_rise : (a : Asked) → Ordered Precedes (marks_of (list_of (traversal a)))
 paths_rise a =
-    (somewhere _ PathsRise [] (traversal a) (keeps_traversal a PathsRise (record { enters = rise_enters _; leaves = rise_leaves })
+    (somewhere (endless a (targets_of a.file (pairs meta a.file))) PathsRise [] (traversal a) (keeps_traversal a PathsRise (record { enters = rise_enters _; leaves = rise_leaves })
     (record { ordered = (tt, tt); next = (tt, tt) }))).1.1.ordered
 
 pub paths_distinct : (a : Asked) → Distinct (marks_of (list_of (traversal a)))

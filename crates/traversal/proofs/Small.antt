@@ -11,11 +11,12 @@ use Rattle.seq.proofs.Lists.{all_imp, all_append, all_left, all_right}
 use Rattle.seq.proofs.Pigeon.{pigeonhole}
 use Rattle.layout.specs.Octets.{Octets}
 use Rattle.refusal.specs.declared.Check.TheVariants.{Passed}
-use Rattle.open.specs.Opening.{field}
+use Rattle.open.specs.Opening.{field, pairs}
 use Rattle.mark.specs.Mark.{Encodable}
-use Rattle.context.specs.Context.{Targets, ctx_id}
+use Rattle.context.specs.Context.{Targets, ctx_id, targets_of}
 use Rattle.context.specs.Entry.{Entry, entry_at}
-use Rattle.traversal.specs.Traversal.{Asked, list_of, Parameters, visit_check, depth_limit, level, from_roots, traversal}
+use Rattle.open.specs.Format.{meta}
+use Rattle.traversal.specs.Traversal.{Asked, list_of, Parameters, visit_check, depth_limit, level, from_roots, traversal, endless}
 use Rattle.traversal.specs.From.{limited_from}
 use Rattle.traversal.proofs.Keeps.{snoc, Kept, Somewhere, somewhere, keeps_level, keeps_traversal}
 use Rattle.traversal.proofs.Table.{id_of}
@@ -79,7 +80,7 @@ counts_kept E = record { enters = counts_enters E; leaves = counts_leaves E.aske
 
 counts_traversal : (a : Asked) → Somewhere (Counts a) (list_of (traversal a))
 counts_traversal a =
-    somewhere _ (Counts a) [] (traversal a) (keeps_traversal a (Counts a) (counts_kept _) (none_counted a))
+    somewhere (endless a (targets_of a.file (pairs meta a.file))) (Counts a) [] (traversal a) (keeps_traversal a (Counts a) (counts_kept _) (none_counted a))
 
 -- ---- what it comes to
 
