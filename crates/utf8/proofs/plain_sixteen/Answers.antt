@@ -1,5 +1,4 @@
 -- The bytes so far are passed where all were plain.
-use Prim.Native.Nat.{◌-◌}
 use mathlib.Core.Path.{◌≡◌}
 use native.Mathlib.Omega.{arith}
 use Rattle.utf8.proofs.Progress.{group_none, group_more}

@@ -1,5 +1,4 @@
 -- Group by group.
-use Prim.Native.Nat.{◌-◌}
 use native.Mathlib.Omega.{arith}
 use Rattle.utf8.proofs.Progress.{spans_none, spans_on}
 use Rattle.utf8.proofs.skip_groups.Goals as goal

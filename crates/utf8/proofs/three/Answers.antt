@@ -1,0 +1,31 @@
+-- Too few, or the two bytes decide.
+use Rattle.std.proofs.Common.{ℕ, ◌≤◌, ◌≡◌, Bool, ◌&&◌, List, [], ◌∷◌, length, drop, get_or, sym, ap₂, ◌∙◌, arith}
+use Rattle.utf8.specs.Grammar.{ByteRange, ◌to◌, continuation, in_range, in_ranges}
+use Rattle.utf8.proofs.Read.{size_too_few, size_yes, size_no, three_match}
+use Rattle.utf8.proofs.three.Goals as goal
+
+abbrev ranges : (low high : ℕ) → List ByteRange
+ranges low high = low to high ∷ continuation ∷ []
+
+-- the tests by the code are the table's
+tested : (s : List ℕ) (low high : ℕ) (t u : Bool) → 3 ≤ length s
+    → t ≡ in_range (low to high) (get_or s 1 0) → u ≡ in_range continuation (get_or s 2 0)
+    → in_ranges (ranges low high) (drop 1 s) ≡ (t && u)
+tested s low high t u h d e = three_match s (low to high) h ∙ ap₂ ◌&&◌ (sym d) (sym e)
+
+pub returns-then-s-lt3 : goal.returns-then-s-lt3
+returns-then-s-lt3 c = size_too_few (ranges c.args.low c.args.high) c.args.s.now (omega arith) (omega arith)
+
+pub returns-then-in_range : goal.returns-then-in_range
+returns-then-in_range c =
+    let s = c.args.s.now in
+    size_yes (ranges c.args.low c.args.high) (drop 1 s)
+    (tested s c.args.low c.args.high c.in_range.result c.in_range-2.result (omega arith) c.in_range.ensures c.in_range-2.ensures
+    ∙ c.if-in_range.true)
+
+pub returns-else-in_range : goal.returns-else-in_range
+returns-else-in_range c =
+    let s = c.args.s.now in
+    size_no (ranges c.args.low c.args.high) (drop 1 s)
+    (tested s c.args.low c.args.high c.in_range.result c.in_range-2.result (omega arith) c.in_range.ensures c.in_range-2.ensures
+    ∙ c.if-in_range.false)

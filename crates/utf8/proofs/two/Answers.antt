@@ -1,0 +1,22 @@
+-- Too few, or the byte decides.
+use Rattle.std.proofs.Common.{ℕ, ◌≤◌, ◌≡◌, Bool, List, [], ◌∷◌, length, drop, get_or, sym, ◌∙◌, arith}
+use Rattle.utf8.specs.Grammar.{continuation, in_range, in_ranges}
+use Rattle.utf8.proofs.Read.{size_too_few, size_yes, size_no, two_match}
+use Rattle.utf8.proofs.two.Goals as goal
+
+-- the test by the code is the table's
+tested : (s : List ℕ) (t : Bool) → 2 ≤ length s → t ≡ in_range continuation (get_or s 1 0) → in_ranges (continuation ∷ []) (drop 1 s) ≡ t
+tested s t h e = two_match s h ∙ sym e
+
+pub returns-then-s-lt2 : goal.returns-then-s-lt2
+returns-then-s-lt2 c = size_too_few (continuation ∷ []) c.args.s.now (omega arith) (omega arith)
+
+pub returns-then-in_range : goal.returns-then-in_range
+returns-then-in_range c =
+    let s = c.args.s.now in
+    size_yes (continuation ∷ []) (drop 1 s) (tested s c.in_range.result (omega arith) c.in_range.ensures ∙ c.if-in_range.true)
+
+pub returns-else-in_range : goal.returns-else-in_range
+returns-else-in_range c =
+    let s = c.args.s.now in
+    size_no (continuation ∷ []) (drop 1 s) (tested s c.in_range.result (omega arith) c.in_range.ensures ∙ c.if-in_range.false)
