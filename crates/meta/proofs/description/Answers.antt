@@ -3,4 +3,7 @@ use Rattle.meta.proofs.description.Goals as goal
 
 pub returns : goal.returns
 returns c =
-    rw (← c.description_at.ensures) (c.bytes.ensures.result_value, c.bytes.ensures.refusal_after)
+    record {
+      result_value = rw (← c.description_at.ensures) c.bytes.ensures.result_value;
+      refusal_after = rw (← c.description_at.ensures) c.bytes.ensures.refusal_after;
+    }

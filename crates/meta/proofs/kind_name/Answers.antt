@@ -3,4 +3,7 @@ use Rattle.meta.proofs.kind_name.Goals as goal
 
 pub returns : goal.returns
 returns c =
-    rw (← c.kind_at.ensures) (c.bytes.ensures.result_value, c.bytes.ensures.refusal_after)
+    record {
+      result_value = rw (← c.kind_at.ensures) c.bytes.ensures.result_value;
+      refusal_after = rw (← c.kind_at.ensures) c.bytes.ensures.refusal_after;
+    }

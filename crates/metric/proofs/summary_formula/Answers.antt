@@ -3,4 +3,7 @@ use Rattle.metric.proofs.summary_formula.Goals as goal
 
 pub returns : goal.returns
 returns c =
-    rw (← c.summary_at.ensures, ← c.summary_text.ensures) (c.bytes.ensures.result_value, c.bytes.ensures.refusal_after)
+    record {
+      result_value = rw (← c.summary_at.ensures, ← c.summary_text.ensures) c.bytes.ensures.result_value;
+      refusal_after = rw (← c.summary_at.ensures, ← c.summary_text.ensures) c.bytes.ensures.refusal_after;
+    }
