@@ -3,4 +3,7 @@ use Rattle.function.proofs.function_name.Goals as goal
 
 pub returns : goal.returns
 returns c =
-    rw (← c.function_at.ensures) (c.name_bytes.ensures.result_value, c.name_bytes.ensures.which_after)
+    record {
+      result_value = rw (← c.function_at.ensures) c.name_bytes.ensures.result_value;
+      which_after = rw (← c.function_at.ensures) c.name_bytes.ensures.which_after;
+    }

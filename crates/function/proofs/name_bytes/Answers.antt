@@ -8,12 +8,12 @@ use Rattle.function.proofs.name_bytes.Goals as goal
 pub returns-then-name-eq0 : goal.returns-then-name-eq0
 unfolding name_bytes name_which either
 returns-then-name-eq0 c =
-    rw (c.in-Found.is, eq-eqb _ 0 c.if-name-eq0.true) (refl, refl)
+    rw (c.in-Found.is, eq-eqb _ 0 c.if-name-eq0.true) record { result_value = refl; which_after = refl }
 
 pub returns-else-name-eq0 : goal.returns-else-name-eq0
 unfolding name_bytes name_which either
 returns-else-name-eq0 c =
-    rw (c.in-Found.is, c.part.ensures, ne_eqb _ 0 c.if-name-eq0.false) (refl, refl)
+    rw (c.in-Found.is, c.part.ensures, ne_eqb _ 0 c.if-name-eq0.false) record { result_value = refl; which_after = refl }
 
 pub returns-in-Refused : goal.returns-in-Refused
 unfolding name_bytes name_which
