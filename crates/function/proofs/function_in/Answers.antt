@@ -25,7 +25,14 @@ nth-requires c =
 pub returns-in-At : goal.returns-in-At
 unfolding on_element
 returns-in-At c =
-    rw (c.function_of.ensures, ← c.of_specs-modules.ensures, ← c.of_specs-files.ensures, ← c.of_specs-functions.ensures, ← c.nth.ensures, c.in-At.is)
+    rw (
+      c.function_of.ensures,
+      ← c.of_specs-modules.ensures,
+      ← c.of_specs-files.ensures,
+      ← c.of_specs-functions.ensures,
+      ← c.nth.ensures,
+      c.in-At.is,
+    )
 
 pub returns-in-Refused : goal.returns-in-Refused
 unfolding on_element

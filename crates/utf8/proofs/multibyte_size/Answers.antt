@@ -19,23 +19,28 @@ returns-then-s-eq0 c =
 
 pub returns-then-b-lt194 : goal.returns-then-b-lt194
 returns-then-b-lt194 c =
-    sym (size_cons multibyte c.args.s.now (omega arith) ∙ lead_low (get_or c.args.s.now 0 0) (drop 1 c.args.s.now) (omega arith))
+    let s = c.args.s.now in
+    sym (size_cons multibyte s (omega arith) ∙ lead_low (get_or s 0 0) (drop 1 s) (omega arith))
 
 pub returns-then-b-lt224 : goal.returns-then-b-lt224
 returns-then-b-lt224 c =
-    c.two.ensures ∙ sym (size_cons multibyte c.args.s.now (omega arith) ∙ lead_two (get_or c.args.s.now 0 0) (drop 1 c.args.s.now) (omega arith) (omega arith))
+    let s = c.args.s.now in
+    c.two.ensures ∙ sym (size_cons multibyte s (omega arith) ∙ lead_two (get_or s 0 0) (drop 1 s) (omega arith) (omega arith))
 
 pub returns-then-b-lt240 : goal.returns-then-b-lt240
 returns-then-b-lt240 c =
-    c.three.ensures ∙ same-bounds (continuation ∷ []) (drop 1 c.args.s.now) c.second_low.ensures c.second_high.ensures
-    ∙ sym (size_cons multibyte c.args.s.now (omega arith) ∙ lead_three (get_or c.args.s.now 0 0) (drop 1 c.args.s.now) (omega arith) (omega arith))
+    let s = c.args.s.now in
+    c.three.ensures ∙ same-bounds (continuation ∷ []) (drop 1 s) c.second_low.ensures c.second_high.ensures
+    ∙ sym (size_cons multibyte s (omega arith) ∙ lead_three (get_or s 0 0) (drop 1 s) (omega arith) (omega arith))
 
 pub returns-then-b-lt245 : goal.returns-then-b-lt245
 returns-then-b-lt245 c =
+    let s = c.args.s.now in
     c.four.ensures
-    ∙ same-bounds (continuation ∷ continuation ∷ []) (drop 1 c.args.s.now) c.second_low-then-b-lt245.ensures c.second_high-then-b-lt245.ensures
-    ∙ sym (size_cons multibyte c.args.s.now (omega arith) ∙ lead_four (get_or c.args.s.now 0 0) (drop 1 c.args.s.now) (omega arith) (omega arith))
+    ∙ same-bounds (continuation ∷ continuation ∷ []) (drop 1 s) c.second_low-then-b-lt245.ensures c.second_high-then-b-lt245.ensures
+    ∙ sym (size_cons multibyte s (omega arith) ∙ lead_four (get_or s 0 0) (drop 1 s) (omega arith) (omega arith))
 
 pub returns : goal.returns
 returns c =
-    sym (size_cons multibyte c.args.s.now (omega arith) ∙ lead_high (get_or c.args.s.now 0 0) (drop 1 c.args.s.now) (omega arith))
+    let s = c.args.s.now in
+    sym (size_cons multibyte s (omega arith) ∙ lead_high (get_or s 0 0) (drop 1 s) (omega arith))

@@ -26,7 +26,8 @@ returns-then-not-is_plain-2 c =
 pub loop-i-preserved : goal.loop-i-preserved
 loop-i-preserved c =
     spans_on c.args.bytes.now c.loop-i.invariant
-    (tested_yes c.args.bytes.now c.loop-i.i c.is_plain-in-loop-i.result c.is_plain-in-loop-i.ensures c.loop-i-test.true c.if-not-is_plain-2.false)
+    (tested_yes c.args.bytes.now c.loop-i.i c.is_plain-in-loop-i.result c.is_plain-in-loop-i.ensures
+    c.loop-i-test.true c.if-not-is_plain-2.false)
 
 pub returns : goal.returns
 returns c =

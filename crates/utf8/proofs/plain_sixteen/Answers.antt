@@ -9,8 +9,11 @@ loop-k-init c =
     (omega arith, λ e. group_none c.args.bytes.now c.args.from (omega arith))
 
 pub loop-k-preserved : goal.loop-k-preserved
-loop-k-preserved c =
-    (omega arith, group_more c.args.bytes.now c.args.from c.loop-k.k c.loop-k.plain c.is_plain-plain.result c.loop-k.invariant.1 (omega arith) c.is_plain-plain.ensures)
+loop-k-preserved c = (
+  omega arith,
+  group_more c.args.bytes.now c.args.from c.loop-k.k c.loop-k.plain c.is_plain-plain.result c.loop-k.invariant.1 (omega arith)
+      c.is_plain-plain.ensures,
+)
 
 pub returns : goal.returns
 returns c =
