@@ -16,11 +16,12 @@ use Rattle.resume.proofs.Free.{fills}
 use Rattle.resume.proofs.contexts.Goals as goal
 
 pub loop-here-init : goal.loop-here-init
-loop-here-init c = λ m b. flat_start
-(rw (c.first_mark.ensures, c.depth.ensures)
-(start _ (slices c.args.listing.now c.args.table.now c.args.records.now) c.args.table.now c.requires.table_value.0))
-(c.first_mark.ensures ∙ ap (λ (n : ℕ). either (eqb n 0) 1 0) c.depth.ensures)
-(ap length c.requires.table_value.1 ∙ length-replicate {A = ℕ} 201 0) (rw c.requires.table_value.1) c.requires.at_nonzero.0
+loop-here-init c =
+    λ m b. flat_start
+    (rw (c.first_mark.ensures, c.depth.ensures)
+    (start _ (slices c.args.listing.now c.args.table.now c.args.records.now) c.args.table.now c.requires.table_value.0))
+    (c.first_mark.ensures ∙ ap (λ (n : ℕ). either (eqb n 0) 1 0) c.depth.ensures)
+    (ap length c.requires.table_value.1 ∙ length-replicate {A = ℕ} 201 0) (rw c.requires.table_value.1) c.requires.at_nonzero.0
 
 -- ---- a visit
 

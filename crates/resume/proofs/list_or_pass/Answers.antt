@@ -12,6 +12,8 @@ use Rattle.seek.specs.declared.Seek.{Seek}
 use Rattle.seek.specs.Seek.{stepped}
 use Rattle.visit.specs.Visit.{RecordPut}
 use Rattle.resume.specs.State.{progress, progress_more, listing_more, RecordMore}
+use Rattle.std.proofs.Common.{eq-eqb}
+use Rattle.std.proofs.lemmas.Bool.{ne_eqb}
 use Rattle.resume.proofs.list_or_pass.Goals as goal
 
 -- before the mark is passed
@@ -41,15 +43,17 @@ step-next-requires c =
 pub returns-then-found : goal.returns-then-found
 unfolding either
 returns-then-found c =
-    let found = ap (eqb c.step-next.result.matched) c.depth.ensures in let all = passed-one c.args.file.now (path_in (decode c.args.mark.now)) _ _ _ _ _ _ _ _ _ 1 c.if-k-eq0.true
-    c.step-next.ensures (rw (sym found ∙ c.if-found.true)) in
+    let found = ap (eqb c.step-next.result.matched) c.depth.ensures in
+    let all = passed-one c.args.file.now (path_in (decode c.args.mark.now)) _ _ _ _ _ _ _ _ _ 1 c.if-k-eq0.true
+    c.step-next.ensures (rw (sym found ∙ eq-eqb _ _ c.if-found.true)) in
     record { value = all.0; listing_after = all.1.0; record_more = all.1.1 }
 
 pub returns-else-found : goal.returns-else-found
 unfolding either
 returns-else-found c =
-    let found = ap (eqb c.step-next.result.matched) c.depth.ensures in let all = passed-one c.args.file.now (path_in (decode c.args.mark.now)) _ _ _ _ _ _ _ _ _ 0 c.if-k-eq0.true
-    c.step-next.ensures (rw (sym found ∙ c.if-found.false)) in
+    let found = ap (eqb c.step-next.result.matched) c.depth.ensures in
+    let all = passed-one c.args.file.now (path_in (decode c.args.mark.now)) _ _ _ _ _ _ _ _ _ 0 c.if-k-eq0.true
+    c.step-next.ensures (rw (sym found ∙ ne_eqb _ _ c.if-found.false)) in
     record { value = all.0; listing_after = all.1.0; record_more = all.1.1 }
 
 pub returns : goal.returns
