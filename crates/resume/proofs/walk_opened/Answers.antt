@@ -52,7 +52,7 @@ pub put_mark-requires : goal.put_mark-requires
 unfolding field
 put_mark-requires c =
     let there = leads (walking (goal.at.put_mark-requires c).After-marks_in-k)
-    (passed (goal.at.put_mark-requires c).After-marks_in-k c.if-k-eq0.false) c.type_inv.file in
+    (passed (goal.at.put_mark-requires c).After-marks_in-k c.if-k-eq0.false) (λ k. (c.type_inv.file k).fits) in
     record {
       leads = rw c.load_u64-start.ensures there;
       mark_room_in_bounds = room_asked c.args.asks _ c.if-asks.true c.requires.new_mark_value;
@@ -63,7 +63,7 @@ unfolding field
 returns-then-asks c =
     rw c.answer_of-then-asks.ensures
     (leaves_asked (walking (goal.at.returns-then-asks c).After-marks_in-k) (passed (goal.at.returns-then-asks c).After-marks_in-k c.if-k-eq0.false)
-    c.type_inv.file c.put_mark.new.out c.if-asks.true
+    (λ k. (c.type_inv.file k).fits) c.put_mark.new.out c.if-asks.true
     (rw c.load_u64-start.ensures at c.put_mark.ensures))
 
 pub returns : goal.returns
