@@ -1,8 +1,12 @@
 // Parts of a text: what the programs that run cases read their lists with.
 #![tactic(auto)]
 
+mod file;
+
 ghost use Rattle.std.specs.Prelude.{◌≡◌, ◌+◌, ◌-◌, ◌*◌, ◌^◌, ◌≤◌, min, length};
 ghost use Rattle.script.specs.Line.{part_at, decimal};
+
+pub use file::{read_file, read_full};
 
 // The part of a text from a place to just before the next stop byte.
 fn part(stop: u8, list: &[u8], at: usize) -> &[u8]
