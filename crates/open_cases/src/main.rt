@@ -2,98 +2,88 @@
 // place and size of each section.
 #![tactic(auto)]
 
-use libc::STDOUT_FILENO;
+use std::io;
+use std::rt::Files;
 
-fn word(n: u64) {
-    io::write_all(STDOUT_FILENO, b" ");
-    io::print_decimal(STDOUT_FILENO, n);
+fn word(rt: &impl Print, n: u64) -> io::Result<()> {
+    print!(rt; " {n}")
 }
 
-fn pair(p: [u64; 2]) {
-    io::write_all(STDOUT_FILENO, b" ");
-    word(p[0]);
-    word(p[1]);
+fn pair(rt: &impl Print, p: [u64; 2]) -> io::Result<()> {
+    let [place, size] = p;
+    print!(rt; "  {place} {size}")
 }
 
-fn meta(file: &[u8]) {
+fn meta(rt: &impl Print, file: &[u8]) -> io::Result<()> {
     let mut refusal = 0u64;
-    let s = open::open_meta(file, &mut refusal);
-    word(refusal);
-    pair(s[0]);
-    pair(s[1]);
-    pair(s[2]);
-    pair(s[3]);
-    pair(s[4]);
-    pair(s[5]);
-    pair(s[6]);
-    pair(s[7]);
+    let sections = open::open_meta(file, &mut refusal);
+    word(rt, refusal)?;
+    for s in sections {
+        pair(rt, s)?;
+    }
+    Ok(())
 }
 
-fn profile(file: &[u8]) {
+fn profile(rt: &impl Print, file: &[u8]) -> io::Result<()> {
     let mut refusal = 0u64;
-    let s = open::open_profile(file, &mut refusal);
-    word(refusal);
-    pair(s[0]);
-    pair(s[1]);
+    let sections = open::open_profile(file, &mut refusal);
+    word(rt, refusal)?;
+    for s in sections {
+        pair(rt, s)?;
+    }
+    Ok(())
 }
 
-fn cct(file: &[u8]) {
+fn cct(rt: &impl Print, file: &[u8]) -> io::Result<()> {
     let mut refusal = 0u64;
     let s = open::open_cct(file, &mut refusal);
-    word(refusal);
-    pair(s[0]);
+    word(rt, refusal)?;
+    pair(rt, s[0])
 }
 
-fn trace(file: &[u8]) {
+fn trace(rt: &impl Print, file: &[u8]) -> io::Result<()> {
     let mut refusal = 0u64;
     let s = open::open_trace(file, &mut refusal);
-    word(refusal);
-    pair(s[0]);
+    word(rt, refusal)?;
+    pair(rt, s[0])
 }
 
-fn show(name: &[u8], file: &[u8]) {
+fn show(rt: &impl Print, name: &[u8], file: &[u8]) -> io::Result<()> {
     if name.len() == 0 {
-        return;
+        return Ok(());
     }
-    io::write_all(STDOUT_FILENO, name);
+    rt.write_all(name)?;
     match name[0] {
-        b'm' => meta(file),
-        b'p' => profile(file),
-        b'c' => cct(file),
-        _ => trace(file),
+        b'm' => meta(rt, file)?,
+        b'p' => profile(rt, file)?,
+        b'c' => cct(rt, file)?,
+        _ => trace(rt, file)?,
     }
-    io::write_all(STDOUT_FILENO, b"\n");
+    println!(rt)
 }
 
-fn case(name: &[u8]) {
-    let fd = os::open_read(name);
-    if fd < 0 {
-        os::fail(name);
-        return;
-    }
-    let mut buffer = io::buffer();
-    let n = io::read_full(fd, &mut buffer);
-    libc::close(fd);
-    show(name, &buffer[..n]);
+fn case(rt: &(impl Files + Print + Eprint), name: &[u8]) -> io::Result<()> {
+    let mut buffer = [0u8; 4096];
+    let Some(n) = script::read_file(rt, name, &mut buffer)? else {
+        return Ok(());
+    };
+    show(rt, name, &buffer[..n])
 }
 
-fn each_line(list: &[u8]) {
+fn each_line(rt: &(impl Files + Print + Eprint), list: &[u8]) -> io::Result<()> {
     let mut at = 0;
     while at < list.len() {
         let name = script::line(list, at);
-        case(name);
+        case(rt, name)?;
         at = at + name.len() + 1;
     }
+    Ok(())
 }
 
-fn main() {
-    let fd = os::open_read(b"list");
-    if fd < 0 {
-        os::fail(b"list");
-        return;
-    }
-    let mut buffer = io::large_buffer();
-    let n = io::read_full(fd, &mut buffer);
-    libc::close(fd);
-    each_line(&buffer[..n]);
+fn main(rt: HostRuntime) -> io::Result<()> {
+    let mut buffer = [0u8; 65536];
+    let Some(n) = script::read_file(&rt, b"list", &mut buffer)? else {
+        return Ok(());
+    };
+    each_line(&rt, &buffer[..n])
 }

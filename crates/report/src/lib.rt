@@ -2,50 +2,36 @@
 // do.
 #![tactic(auto)]
 
-ghost use Rattle.std.specs.Prelude.{◌≡◌, ltb, length};
+ghost use Rattle.std.specs.Prelude.{◌≡◌, ℕ, ltb, length, IfOk, OnErr};
 ghost use Rattle.traversal.specs.Walk.{number_listed, slices, Leaves};
 
 use context::{PARENT, RECORD};
-use libc::STDOUT_FILENO;
+use std::io;
 use traversal::Walked;
 
 // The longest file that the listing program takes.
 const LONGEST: usize = 32768;
 
-fn number(n: u64) {
-    io::print_decimal(STDOUT_FILENO, n);
-}
-
-fn spaced(n: u64) {
-    io::write_all(STDOUT_FILENO, b" ");
-    number(n);
-}
-
-fn newline() {
-    io::write_all(STDOUT_FILENO, b"\n");
-}
-
 // Place, depth, id, type, relation and parent of the i-th context, if its record is there.
-fn context(records: &[u64], i: usize) {
+fn context(rt: &impl Print, records: &[u64], i: usize) -> io::Result<()> {
     if records.len() / RECORD <= i {
-        return;
+        return Ok(());
     }
     let at = i * RECORD;
-    number(records[at]);
-    spaced(records[at + 1]);
-    spaced(records[at + 2]);
-    spaced(records[at + 4]);
-    spaced(records[at + 3]);
-    spaced(records[at + PARENT]);
-    newline();
+    let place = records[at];
+    let depth = records[at + 1];
+    let id = records[at + 2];
+    let relation = records[at + 3];
+    let kind = records[at + 4];
+    let parent = records[at + PARENT];
+    println!(rt; "{place} {depth} {id} {kind} {relation} {parent}")
 }
 
-fn contexts(records: &[u64], n: usize) {
-    let mut i = 0;
-    while i < n {
-        context(records, i);
-        i += 1;
+fn contexts(rt: &impl Print, records: &[u64], n: usize) -> io::Result<()> {
+    for i in 0..n {
+        context(rt, records, i)?;
     }
+    Ok(())
 }
 
 // How many contexts a walk listed.
@@ -59,42 +45,42 @@ fn listed(walked: Walked) -> usize
     }
 }
 
-fn end(walked: Walked) {
+fn end(rt: &impl Print, walked: Walked) -> io::Result<()> {
     match walked {
-        Walked::Complete(_) => {
-            io::write_all(STDOUT_FILENO, b"whole");
-        }
-        Walked::Truncated(_) => {
-            io::write_all(STDOUT_FILENO, b"cut");
-        }
-        Walked::Refused(r, _) => {
-            io::write_all(STDOUT_FILENO, b"refused");
-            spaced(refusal::number(r));
-        }
+        Walked::Complete(n) => println!(rt; "whole {n}"),
+        Walked::Truncated(n) => println!(rt; "cut {n}"),
+        Walked::Refused(r, n) => println!(rt; "refused {} {n}", refusal::number(r)),
     }
-    spaced(listed(walked) as u64);
-    newline();
 }
 
 // Walks a file with these slices, prints a heading, each context whose record there is room for, and the end; gives the number listed.
-pub fn show(file: &[u8], listing: &mut [u64], table: &mut [u64], records: &mut [u64]) -> usize
-    ensures { Leaves number_listed file.now (slices listing.old table.old records.old)
-        result (slices listing.new table.new records.new) }
+// Where printing fails, the slices are as the walk left them.
+pub fn show(
+    rt: &impl Print,
+    file: &[u8],
+    listing: &mut [u64],
+    table: &mut [u64],
+    records: &mut [u64],
+) -> io::Result<usize>
+    ensures ok { IfOk result (λ n. Leaves number_listed file.now (slices listing.old table.old records.old)
+        n (slices listing.new table.new records.new)) }
+    ensures err { OnErr result ((n : ℕ) × Leaves number_listed file.now (slices listing.old table.old records.old)
+        n (slices listing.new table.new records.new)) }
 {
-    io::write_all(STDOUT_FILENO, b"place depth id type relation parent\n");
     let walked = walk::records(file, listing, table, records);
-    contexts(records, listed(walked));
-    end(walked);
-    listed(walked)
+    println!(rt; "place depth id type relation parent")?;
+    contexts(rt, records, listed(walked))?;
+    end(rt, walked)?;
+    Ok(listed(walked))
 }
 
 // Whether a file is too long for the listing program, which then says so.
-pub fn too_long(file: &[u8]) -> bool
-    ensures { result ≡ ltb 32768 (length file.now) }
+pub fn too_long(rt: &impl Print, file: &[u8]) -> io::Result<bool>
+    ensures { IfOk result (λ b. b ≡ ltb 32768 (length file.now)) }
 {
     if LONGEST < file.len() {
-        io::write_all(STDOUT_FILENO, b"too long\n");
-        return true;
+        println!(rt; "too long")?;
+        return Ok(true);
     }
-    false
+    Ok(false)
 }
