@@ -3,35 +3,31 @@
 #![tactic(auto)]
 
 use block::Lookup;
-use libc::STDOUT_FILENO;
+use std::io;
+use std::rt::Files;
 use total::Totals;
 
-fn spaced(n: u64) {
-    io::write_all(STDOUT_FILENO, b" ");
-    io::print_decimal(STDOUT_FILENO, n);
+fn spaced(rt: &impl Print, n: u64) -> io::Result<()> {
+    print!(rt; " {n}")
 }
 
-fn refused(r: refusal::Refusal) {
-    io::write_all(STDOUT_FILENO, b" refused");
-    spaced(refusal::number(r));
+fn refused(rt: &impl Print, r: refusal::Refusal) -> io::Result<()> {
+    print!(rt; " refused")?;
+    spaced(rt, refusal::number(r))
 }
 
-fn show_lookup(answer: Lookup) {
+fn show_lookup(rt: &impl Print, answer: Lookup) -> io::Result<()> {
     match answer {
         Lookup::Found(bits) => {
-            io::write_all(STDOUT_FILENO, b" found");
-            spaced(bits);
+            print!(rt; " found")?;
+            spaced(rt, bits)
         }
-        Lookup::Absent => {
-            io::write_all(STDOUT_FILENO, b" absent");
-        }
-        Lookup::Refused(r) => {
-            refused(r);
-        }
+        Lookup::Absent => print!(rt; " absent"),
+        Lookup::Refused(r) => refused(rt, r),
     }
 }
 
-fn show_totals(answer: Totals) {
+fn show_totals(rt: &impl Print, answer: Totals) -> io::Result<()> {
     match answer {
         Totals::Of {
             count,
@@ -41,50 +37,47 @@ fn show_totals(answer: Totals) {
             greatest,
             sum,
         } => {
-            io::write_all(STDOUT_FILENO, b" totals");
-            spaced(count);
-            spaced(least_of);
-            spaced(least);
-            spaced(greatest_of);
-            spaced(greatest);
-            spaced(sum);
+            print!(rt; " totals")?;
+            spaced(rt, count)?;
+            spaced(rt, least_of)?;
+            spaced(rt, least)?;
+            spaced(rt, greatest_of)?;
+            spaced(rt, greatest)?;
+            spaced(rt, sum)
         }
-        Totals::Absent => {
-            io::write_all(STDOUT_FILENO, b" absent");
-        }
-        Totals::Refused(r) => {
-            refused(r);
-        }
+        Totals::Absent => print!(rt; " absent"),
+        Totals::Refused(r) => refused(rt, r),
     }
 }
 
 // By the first letter of the kind.
-fn ask(kind: u8, file: &[u8], a: u64, b: u64, c: u64) {
+fn ask(rt: &impl Print, kind: u8, file: &[u8], a: u64, b: u64, c: u64) -> io::Result<()> {
     if kind == b'p' {
-        show_lookup(lookup::profile_lookup(file, a, b, c));
-        return;
+        return show_lookup(rt, lookup::profile_lookup(file, a, b, c));
     }
     if kind == b'c' {
-        show_lookup(lookup::cct_lookup(file, a, b, c));
-        return;
+        return show_lookup(rt, lookup::cct_lookup(file, a, b, c));
     }
-    show_totals(cct::totals(file, a, b));
+    show_totals(rt, cct::totals(file, a, b))
 }
 
-fn case(kind: u8, name: &[u8], a: u64, b: u64, c: u64) {
-    let fd = os::open_read(name);
-    if fd < 0 {
-        os::fail(name);
-        return;
-    }
+fn case(
+    rt: &(impl Files + Print + Eprint),
+    kind: u8,
+    name: &[u8],
+    a: u64,
+    b: u64,
+    c: u64,
+) -> io::Result<()> {
     let mut buffer = [0u8; 32769];
-    let n = io::read_full(fd, &mut buffer);
-    libc::close(fd);
-    ask(kind, &buffer[..n], a, b, c);
+    let Some(n) = script::read_file(rt, name, &mut buffer)? else {
+        return Ok(());
+    };
+    ask(rt, kind, &buffer[..n], a, b, c)
 }
 
-fn row(line: &[u8]) {
-    io::write_all(STDOUT_FILENO, line);
+fn row(rt: &(impl Files + Print + Eprint), line: &[u8]) -> io::Result<()> {
+    rt.write_all(line)?;
     let kind = script::word(line, 0);
     let at = kind.len() + 1;
     let name = script::word(line, at);
@@ -95,33 +88,31 @@ fn row(line: &[u8]) {
     let c = script::word(line, second + b.len() + 1);
     if 0 < kind.len() {
         case(
+            rt,
             kind[0],
             name,
             script::decimal(a),
             script::decimal(b),
             script::decimal(c),
-        );
+        )?;
     }
-    io::write_all(STDOUT_FILENO, b"\n");
+    println!(rt)
 }
 
-fn each_line(list: &[u8]) {
+fn each_line(rt: &(impl Files + Print + Eprint), list: &[u8]) -> io::Result<()> {
     let mut at = 0;
     while at < list.len() {
         let line = script::line(list, at);
-        row(line);
+        row(rt, line)?;
         at = at + line.len() + 1;
     }
+    Ok(())
 }
 
-fn main() {
-    let fd = os::open_read(b"list");
-    if fd < 0 {
-        os::fail(b"list");
-        return;
-    }
-    let mut buffer = io::large_buffer();
-    let n = io::read_full(fd, &mut buffer);
-    libc::close(fd);
-    each_line(&buffer[..n]);
+fn main(rt: HostRuntime) -> io::Result<()> {
+    let mut buffer = [0u8; 65536];
+    let Some(n) = script::read_file(&rt, b"list", &mut buffer)? else {
+        return Ok(());
+    };
+    each_line(&rt, &buffer[..n])
 }

@@ -5,20 +5,20 @@
 
 use dcpi::{SampleCount, SampleTotals};
 use dcpi_entries::EntryCount;
-use libc::STDOUT_FILENO;
+use std::io;
+use std::rt::Files;
 
 // What the lent bytes hold before.
 const BEFORE: u8 = 255;
 
 const WIDTH: usize = 24;
 
-fn spaced(n: u64) {
-    io::write_all(STDOUT_FILENO, b" ");
-    io::print_decimal(STDOUT_FILENO, n);
+fn spaced(rt: &impl Print, n: u64) -> io::Result<()> {
+    print!(rt; " {n}")
 }
 
-fn newline() {
-    io::write_all(STDOUT_FILENO, b"\n");
+fn newline(rt: &impl Print) -> io::Result<()> {
+    println!(rt)
 }
 
 // A decimal number, or the greatest of its kind.
@@ -38,129 +38,142 @@ fn size(text: &[u8]) -> usize {
 }
 
 // Two digits.
-fn digits(byte: u8) {
-    io::print_hex(STDOUT_FILENO, byte as u64, 2);
+fn digits(rt: &impl Print, byte: u8) -> io::Result<()> {
+    print!(rt; "{byte:02x}")
 }
 
-fn hexadecimal(part: &[u8]) {
-    let mut i = 0;
-    while i < part.len() {
-        digits(part[i]);
-        i += 1;
+fn hexadecimal(rt: &impl Print, part: &[u8]) -> io::Result<()> {
+    for byte in part {
+        digits(rt, *byte)?;
     }
+    Ok(())
 }
 
-fn row(at: usize, part: &[u8]) {
-    io::print_decimal(STDOUT_FILENO, at as u64);
-    io::write_all(STDOUT_FILENO, b" ");
-    hexadecimal(part);
-    newline();
+fn row(rt: &impl Print, at: usize, part: &[u8]) -> io::Result<()> {
+    print!(rt; "{at} ")?;
+    hexadecimal(rt, part)?;
+    newline(rt)
 }
 
-fn rows(entries: &[u8]) {
+fn rows(rt: &impl Print, entries: &[u8]) -> io::Result<()> {
     let mut at = 0;
     while at < entries.len() {
         if entries.len() - at <= WIDTH {
-            row(at, &entries[at..]);
-            return;
+            return row(rt, at, &entries[at..]);
         }
         let end = at + WIDTH;
-        row(at, &entries[at..end]);
+        row(rt, at, &entries[at..end])?;
         at = end;
     }
+    Ok(())
 }
 
-fn refused(r: refusal::Refusal) {
-    io::write_all(STDOUT_FILENO, b"refused");
-    spaced(refusal::number(r));
+fn refused(rt: &impl Print, r: refusal::Refusal) -> io::Result<()> {
+    print!(rt; "refused")?;
+    spaced(rt, refusal::number(r))
 }
 
-fn show_totals(answer: SampleTotals) {
+fn show_totals(rt: &impl Print, answer: SampleTotals) -> io::Result<()> {
     match answer {
         SampleTotals::Of { offsets, samples } => {
-            io::write_all(STDOUT_FILENO, b"totals");
-            spaced(offsets);
-            spaced(samples);
+            print!(rt; "totals")?;
+            spaced(rt, offsets)?;
+            spaced(rt, samples)?;
         }
-        SampleTotals::Refused(r) => {
-            refused(r);
-        }
+        SampleTotals::Refused(r) => refused(rt, r)?,
     }
-    newline();
+    newline(rt)
 }
 
-fn show_count(answer: SampleCount) {
+fn show_count(rt: &impl Print, answer: SampleCount) -> io::Result<()> {
     match answer {
         SampleCount::Found(n) => {
-            io::write_all(STDOUT_FILENO, b"found");
-            spaced(n);
+            print!(rt; "found")?;
+            spaced(rt, n)?;
         }
-        SampleCount::Absent => {
-            io::write_all(STDOUT_FILENO, b"absent");
-        }
-        SampleCount::Refused(r) => {
-            refused(r);
-        }
+        SampleCount::Absent => print!(rt; "absent")?,
+        SampleCount::Refused(r) => refused(rt, r)?,
     }
-    newline();
+    newline(rt)
 }
 
-fn show_entry_count(answer: EntryCount) {
+fn show_entry_count(rt: &impl Print, answer: EntryCount) -> io::Result<()> {
     match answer {
         EntryCount::Of(n) => {
-            io::write_all(STDOUT_FILENO, b"listed");
-            spaced(n);
+            print!(rt; "listed")?;
+            spaced(rt, n)?;
         }
-        EntryCount::Refused(r) => {
-            refused(r);
-        }
+        EntryCount::Refused(r) => refused(rt, r)?,
     }
-    newline();
+    newline(rt)
 }
 
-fn list(samples: &[u8], profile: u32, metric: u16, entries: &mut [u8]) {
-    show_entry_count(dcpi_entries::list(samples, profile, metric, entries));
-    rows(entries);
+fn list(
+    rt: &impl Print,
+    samples: &[u8],
+    profile: u32,
+    metric: u16,
+    entries: &mut [u8],
+) -> io::Result<()> {
+    show_entry_count(rt, dcpi_entries::list(samples, profile, metric, entries))?;
+    rows(rt, entries)
 }
 
 // With as many bytes for entries.
-fn with_room(samples: &[u8], profile: u32, metric: u16, entries: &mut [u8], room: usize) {
+fn with_room(
+    rt: &impl Print,
+    samples: &[u8],
+    profile: u32,
+    metric: u16,
+    entries: &mut [u8],
+    room: usize,
+) -> io::Result<()> {
     if entries.len() < room {
-        return;
+        return Ok(());
     }
-    list(samples, profile, metric, &mut entries[..room]);
+    list(rt, samples, profile, metric, &mut entries[..room])
 }
 
-fn lend(samples: &[u8], profile: u32, metric: u16, room: usize) {
+fn lend(rt: &impl Print, samples: &[u8], profile: u32, metric: u16, room: usize) -> io::Result<()> {
     let mut entries = [BEFORE; 8192];
-    with_room(samples, profile, metric, &mut entries, room);
+    with_room(rt, samples, profile, metric, &mut entries, room)
 }
 
 // By the first letter of the kind.
-fn ask(kind: u8, samples: &[u8], first: &[u8], second: &[u8], third: &[u8]) {
+fn ask(
+    rt: &impl Print,
+    kind: u8,
+    samples: &[u8],
+    first: &[u8],
+    second: &[u8],
+    third: &[u8],
+) -> io::Result<()> {
     match kind {
-        b't' => show_totals(dcpi::totals(samples)),
-        b'l' => show_count(dcpi::lookup(samples, script::decimal(first))),
-        _ => lend(samples, profile(first), metric(second), size(third)),
+        b't' => show_totals(rt, dcpi::totals(samples)),
+        b'l' => show_count(rt, dcpi::lookup(samples, script::decimal(first))),
+        _ => lend(rt, samples, profile(first), metric(second), size(third)),
     }
 }
 
-fn case(name: &[u8], kind: u8, first: &[u8], second: &[u8], third: &[u8]) {
-    let fd = os::open_read(name);
-    if fd < 0 {
-        os::fail(name);
-        return;
-    }
-    let mut buffer = io::large_buffer();
-    let n = io::read_full(fd, &mut buffer);
-    libc::close(fd);
-    ask(kind, &buffer[..n], first, second, third);
+fn case(
+    rt: &(impl Files + Print + Eprint),
+    name: &[u8],
+    kind: u8,
+    first: &[u8],
+    second: &[u8],
+    third: &[u8],
+) -> io::Result<()> {
+    let mut buffer = [0u8; 65536];
+    let Some(n) = script::read_file(rt, name, &mut buffer)? else {
+        return Ok(());
+    };
+    ask(rt, kind, &buffer[..n], first, second, third)
 }
 
-fn line_case(line: &[u8]) {
-    io::write_all(STDOUT_FILENO, b"== ");
-    io::write_all(STDOUT_FILENO, line);
-    newline();
+fn line_case(rt: &(impl Files + Print + Eprint), line: &[u8]) -> io::Result<()> {
+    print!(rt; "== ")?;
+    rt.write_all(line)?;
+    newline(rt)?;
     let name = script::word(line, 0);
     let at = name.len() + 1;
     let kind = script::word(line, at);
@@ -170,27 +183,25 @@ fn line_case(line: &[u8]) {
     let second = script::word(line, second_at);
     let third = script::word(line, second_at + second.len() + 1);
     if 0 < kind.len() {
-        case(name, kind[0], first, second, third);
+        case(rt, name, kind[0], first, second, third)?;
     }
+    Ok(())
 }
 
-fn each_line(list: &[u8]) {
+fn each_line(rt: &(impl Files + Print + Eprint), list: &[u8]) -> io::Result<()> {
     let mut at = 0;
     while at < list.len() {
         let line = script::line(list, at);
-        line_case(line);
+        line_case(rt, line)?;
         at = at + line.len() + 1;
     }
+    Ok(())
 }
 
-fn main() {
-    let fd = os::open_read(b"list");
-    if fd < 0 {
-        os::fail(b"list");
-        return;
-    }
-    let mut buffer = io::large_buffer();
-    let n = io::read_full(fd, &mut buffer);
-    libc::close(fd);
-    each_line(&buffer[..n]);
+fn main(rt: HostRuntime) -> io::Result<()> {
+    let mut buffer = [0u8; 65536];
+    let Some(n) = script::read_file(&rt, b"list", &mut buffer)? else {
+        return Ok(());
+    };
+    each_line(&rt, &buffer[..n])
 }

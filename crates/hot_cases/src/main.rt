@@ -4,18 +4,18 @@
 ghost use Rattle.std.specs.Prelude.{◌≤◌};
 
 use hot_path::HotPath;
-use libc::STDOUT_FILENO;
+use std::io;
+use std::rt::Files;
 
 // What lent words hold before a search.
 const BEFORE: u64 = 7;
 
-fn spaced(n: u64) {
-    io::write_all(STDOUT_FILENO, b" ");
-    io::print_decimal(STDOUT_FILENO, n);
+fn spaced(rt: &impl Print, n: u64) -> io::Result<()> {
+    print!(rt; " {n}")
 }
 
-fn newline() {
-    io::write_all(STDOUT_FILENO, b"\n");
+fn newline(rt: &impl Print) -> io::Result<()> {
+    println!(rt)
 }
 
 // A decimal number, at most 1,024.
@@ -26,31 +26,30 @@ fn room(text: &[u8]) -> usize
     if 1024 < n { 1024 } else { n as usize }
 }
 
-fn show(found: HotPath) {
+fn show(rt: &impl Print, found: HotPath) -> io::Result<()> {
     match found {
         HotPath::Of(n) => {
-            io::write_all(STDOUT_FILENO, b"path");
-            spaced(n);
+            print!(rt; "path")?;
+            spaced(rt, n)?;
         }
         HotPath::Refused(r) => {
-            io::write_all(STDOUT_FILENO, b"refused");
-            spaced(refusal::number(r));
+            print!(rt; "refused")?;
+            spaced(rt, refusal::number(r))?;
         }
     }
-    newline();
+    newline(rt)
 }
 
-fn words(name: &[u8], values: &[u64]) {
-    io::write_all(STDOUT_FILENO, name);
-    let mut i = 0;
-    while i < values.len() {
-        spaced(values[i]);
-        i += 1;
+fn words(rt: &impl Print, name: &str, values: &[u64]) -> io::Result<()> {
+    print!(rt; "{name}")?;
+    for value in values {
+        spaced(rt, *value)?;
     }
-    newline();
+    newline(rt)
 }
 
 fn found(
+    rt: &impl Print,
     meta: &[u8],
     db: &[u8],
     profile: u64,
@@ -58,15 +57,19 @@ fn found(
     listing: &mut [u64],
     table: &mut [u64],
     path: &mut [u64],
-) {
-    show(hot_path::find(meta, db, profile, metric, listing, table, path));
-    words(b"hot", path);
-    words(b"listing", listing);
-    words(b"table", table);
+) -> io::Result<()> {
+    show(
+        rt,
+        hot_path::find(meta, db, profile, metric, listing, table, path),
+    )?;
+    words(rt, "hot", path)?;
+    words(rt, "listing", listing)?;
+    words(rt, "table", table)
 }
 
 // With as many words of each slice.
 fn with_room(
+    rt: &impl Print,
     meta: &[u8],
     db: &[u8],
     profile: u64,
@@ -77,17 +80,18 @@ fn with_room(
     of_table: usize,
     path: &mut [u64],
     of_path: usize,
-) {
+) -> io::Result<()> {
     if listing.len() < of_listing {
-        return;
+        return Ok(());
     }
     if table.len() < of_table {
-        return;
+        return Ok(());
     }
     if path.len() < of_path {
-        return;
+        return Ok(());
     }
     found(
+        rt,
         meta,
         db,
         profile,
@@ -95,10 +99,11 @@ fn with_room(
         &mut listing[..of_listing],
         &mut table[..of_table],
         &mut path[..of_path],
-    );
+    )
 }
 
 fn with_profiles(
+    rt: &(impl Files + Print + Eprint),
     meta: &[u8],
     name: &[u8],
     profile: u64,
@@ -106,19 +111,16 @@ fn with_profiles(
     of_listing: usize,
     of_table: usize,
     of_path: usize,
-) {
-    let fd = os::open_read(name);
-    if fd < 0 {
-        os::fail(name);
-        return;
-    }
+) -> io::Result<()> {
     let mut buffer = [0u8; 32769];
-    let n = io::read_full(fd, &mut buffer);
-    libc::close(fd);
+    let Some(n) = script::read_file(rt, name, &mut buffer)? else {
+        return Ok(());
+    };
     let mut listing = [BEFORE; 1024];
     let mut table = [BEFORE; 1024];
     let mut path = [BEFORE; 1024];
     with_room(
+        rt,
         meta,
         &buffer[..n],
         profile,
@@ -129,10 +131,11 @@ fn with_profiles(
         of_table,
         &mut path,
         of_path,
-    );
+    )
 }
 
 fn case(
+    rt: &(impl Files + Print + Eprint),
     name: &[u8],
     profiles: &[u8],
     profile: u64,
@@ -140,16 +143,13 @@ fn case(
     of_listing: usize,
     of_table: usize,
     of_path: usize,
-) {
-    let fd = os::open_read(name);
-    if fd < 0 {
-        os::fail(name);
-        return;
-    }
+) -> io::Result<()> {
     let mut buffer = [0u8; 32769];
-    let n = io::read_full(fd, &mut buffer);
-    libc::close(fd);
+    let Some(n) = script::read_file(rt, name, &mut buffer)? else {
+        return Ok(());
+    };
     with_profiles(
+        rt,
         &buffer[..n],
         profiles,
         profile,
@@ -157,14 +157,14 @@ fn case(
         of_listing,
         of_table,
         of_path,
-    );
+    )
 }
 
 // A line: the names of a meta.db and of a profile.db, the profile, the metric, and the words of listing, table and path.
-fn row(line: &[u8]) {
-    io::write_all(STDOUT_FILENO, b"== ");
-    io::write_all(STDOUT_FILENO, line);
-    newline();
+fn row(rt: &(impl Files + Print + Eprint), line: &[u8]) -> io::Result<()> {
+    print!(rt; "== ")?;
+    rt.write_all(line)?;
+    newline(rt)?;
     let name = script::word(line, 0);
     let second = name.len() + 1;
     let profiles = script::word(line, second);
@@ -178,6 +178,7 @@ fn row(line: &[u8]) {
     let table = script::word(line, sixth);
     let path = script::word(line, sixth + table.len() + 1);
     case(
+        rt,
         name,
         profiles,
         script::decimal(profile),
@@ -185,26 +186,23 @@ fn row(line: &[u8]) {
         room(listing),
         room(table),
         room(path),
-    );
+    )
 }
 
-fn each_line(list: &[u8]) {
+fn each_line(rt: &(impl Files + Print + Eprint), list: &[u8]) -> io::Result<()> {
     let mut at = 0;
     while at < list.len() {
         let line = script::line(list, at);
-        row(line);
+        row(rt, line)?;
         at = at + line.len() + 1;
     }
+    Ok(())
 }
 
-fn main() {
-    let fd = os::open_read(b"list");
-    if fd < 0 {
-        os::fail(b"list");
-        return;
-    }
-    let mut buffer = io::large_buffer();
-    let n = io::read_full(fd, &mut buffer);
-    libc::close(fd);
-    each_line(&buffer[..n]);
+fn main(rt: HostRuntime) -> io::Result<()> {
+    let mut buffer = [0u8; 65536];
+    let Some(n) = script::read_file(&rt, b"list", &mut buffer)? else {
+        return Ok(());
+    };
+    each_line(&rt, &buffer[..n])
 }

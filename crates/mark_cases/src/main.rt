@@ -4,7 +4,8 @@
 
 ghost use Rattle.std.specs.Prelude.{◌≤◌, length};
 
-use libc::STDOUT_FILENO;
+use std::io;
+use std::rt::Files;
 use traversal::Walked;
 
 // What lent words and bytes hold before a walk; no mark of these files ends with such a byte.
@@ -12,13 +13,12 @@ const BEFORE: u64 = 7;
 
 const BYTE_BEFORE: u8 = 255;
 
-fn spaced(n: u64) {
-    io::write_all(STDOUT_FILENO, b" ");
-    io::print_decimal(STDOUT_FILENO, n);
+fn spaced(rt: &impl Print, n: u64) -> io::Result<()> {
+    print!(rt; " {n}")
 }
 
-fn newline() {
-    io::write_all(STDOUT_FILENO, b"\n");
+fn newline(rt: &impl Print) -> io::Result<()> {
+    println!(rt)
 }
 
 // A decimal number, at most 1,024.
@@ -29,33 +29,31 @@ fn room(text: &[u8]) -> usize
     if 1024 < n { 1024 } else { n as usize }
 }
 
-fn show(walked: Walked) {
+fn show(rt: &impl Print, walked: Walked) -> io::Result<()> {
     match walked {
         Walked::Complete(n) => {
-            io::write_all(STDOUT_FILENO, b"whole");
-            spaced(n as u64);
+            print!(rt; "whole")?;
+            spaced(rt, n as u64)?;
         }
         Walked::Truncated(n) => {
-            io::write_all(STDOUT_FILENO, b"cut");
-            spaced(n as u64);
+            print!(rt; "cut")?;
+            spaced(rt, n as u64)?;
         }
         Walked::Refused(r, n) => {
-            io::write_all(STDOUT_FILENO, b"refused");
-            spaced(refusal::number(r));
-            spaced(n as u64);
+            print!(rt; "refused")?;
+            spaced(rt, refusal::number(r))?;
+            spaced(rt, n as u64)?;
         }
     }
-    newline();
+    newline(rt)
 }
 
-fn words(name: &[u8], values: &[u64]) {
-    io::write_all(STDOUT_FILENO, name);
-    let mut i = 0;
-    while i < values.len() {
-        spaced(values[i]);
-        i += 1;
+fn words(rt: &impl Print, name: &str, values: &[u64]) -> io::Result<()> {
+    print!(rt; "{name}")?;
+    for value in values {
+        spaced(rt, *value)?;
     }
-    newline();
+    newline(rt)
 }
 
 // How many bytes there are up to the last that is not as it was.
@@ -73,22 +71,21 @@ fn changed(bytes: &[u8]) -> usize
 }
 
 // Two digits.
-fn digits(byte: u8) {
-    io::print_hex(STDOUT_FILENO, byte as u64, 2);
+fn digits(rt: &impl Print, byte: u8) -> io::Result<()> {
+    print!(rt; "{byte:02x}")
 }
 
-fn mark_bytes(bytes: &[u8]) {
-    io::write_all(STDOUT_FILENO, b"mark ");
+fn mark_bytes(rt: &impl Print, bytes: &[u8]) -> io::Result<()> {
+    print!(rt; "mark ")?;
     let n = changed(bytes);
-    let mut i = 0;
-    while i < n {
-        digits(bytes[i]);
-        i += 1;
+    for byte in &bytes[..n] {
+        digits(rt, *byte)?;
     }
-    newline();
+    newline(rt)
 }
 
 fn walked(
+    rt: &impl Print,
     file: &[u8],
     mark: &[u8],
     asks: bool,
@@ -96,16 +93,20 @@ fn walked(
     table: &mut [u64],
     records: &mut [u64],
     new_mark: &mut [u8],
-) {
-    show(resume::walk_from(file, mark, asks, listing, table, records, new_mark));
-    words(b"listing", listing);
-    words(b"table", table);
-    words(b"records", records);
-    mark_bytes(new_mark);
+) -> io::Result<()> {
+    show(
+        rt,
+        resume::walk_from(file, mark, asks, listing, table, records, new_mark),
+    )?;
+    words(rt, "listing", listing)?;
+    words(rt, "table", table)?;
+    words(rt, "records", records)?;
+    mark_bytes(rt, new_mark)
 }
 
 // With as many words and bytes of each slice.
 fn with_room(
+    rt: &impl Print,
     file: &[u8],
     mark: &[u8],
     asks: bool,
@@ -117,20 +118,21 @@ fn with_room(
     of_records: usize,
     new_mark: &mut [u8],
     of_mark: usize,
-) {
+) -> io::Result<()> {
     if listing.len() < of_listing {
-        return;
+        return Ok(());
     }
     if table.len() < of_table {
-        return;
+        return Ok(());
     }
     if records.len() < of_records {
-        return;
+        return Ok(());
     }
     if new_mark.len() < of_mark {
-        return;
+        return Ok(());
     }
     walked(
+        rt,
         file,
         mark,
         asks,
@@ -138,10 +140,11 @@ fn with_room(
         &mut table[..of_table],
         &mut records[..of_records],
         &mut new_mark[..of_mark],
-    );
+    )
 }
 
 fn with_mark(
+    rt: &(impl Files + Print + Eprint),
     file: &[u8],
     name: &[u8],
     asks: bool,
@@ -149,20 +152,17 @@ fn with_mark(
     of_table: usize,
     of_records: usize,
     of_mark: usize,
-) {
-    let fd = os::open_read(name);
-    if fd < 0 {
-        os::fail(name);
-        return;
-    }
+) -> io::Result<()> {
     let mut buffer = [0u8; 2048];
-    let n = io::read_full(fd, &mut buffer);
-    libc::close(fd);
+    let Some(n) = script::read_file(rt, name, &mut buffer)? else {
+        return Ok(());
+    };
     let mut listing = [BEFORE; 1024];
     let mut table = [BEFORE; 1024];
     let mut records = [BEFORE; 1024];
     let mut new_mark = [BYTE_BEFORE; 1024];
     with_room(
+        rt,
         file,
         &buffer[..n],
         asks,
@@ -174,10 +174,11 @@ fn with_mark(
         of_records,
         &mut new_mark,
         of_mark,
-    );
+    )
 }
 
 fn case(
+    rt: &(impl Files + Print + Eprint),
     name: &[u8],
     mark: &[u8],
     asks: bool,
@@ -185,16 +186,13 @@ fn case(
     of_table: usize,
     of_records: usize,
     of_mark: usize,
-) {
-    let fd = os::open_read(name);
-    if fd < 0 {
-        os::fail(name);
-        return;
-    }
+) -> io::Result<()> {
     let mut buffer = [0u8; 32769];
-    let n = io::read_full(fd, &mut buffer);
-    libc::close(fd);
+    let Some(n) = script::read_file(rt, name, &mut buffer)? else {
+        return Ok(());
+    };
     with_mark(
+        rt,
         &buffer[..n],
         mark,
         asks,
@@ -202,15 +200,15 @@ fn case(
         of_table,
         of_records,
         of_mark,
-    );
+    )
 }
 
 // A line: the names of a file and of a mark, whether a new mark is asked for (0 or 1), the words of listing, table and records, and the
 // bytes for a new mark.
-fn row(line: &[u8]) {
-    io::write_all(STDOUT_FILENO, b"== ");
-    io::write_all(STDOUT_FILENO, line);
-    newline();
+fn row(rt: &(impl Files + Print + Eprint), line: &[u8]) -> io::Result<()> {
+    print!(rt; "== ")?;
+    rt.write_all(line)?;
+    newline(rt)?;
     let name = script::word(line, 0);
     let second = name.len() + 1;
     let mark = script::word(line, second);
@@ -224,6 +222,7 @@ fn row(line: &[u8]) {
     let records = script::word(line, sixth);
     let new_mark = script::word(line, sixth + records.len() + 1);
     case(
+        rt,
         name,
         mark,
         script::decimal(asks) != 0,
@@ -231,26 +230,23 @@ fn row(line: &[u8]) {
         room(table),
         room(records),
         room(new_mark),
-    );
+    )
 }
 
-fn each_line(list: &[u8]) {
+fn each_line(rt: &(impl Files + Print + Eprint), list: &[u8]) -> io::Result<()> {
     let mut at = 0;
     while at < list.len() {
         let line = script::line(list, at);
-        row(line);
+        row(rt, line)?;
         at = at + line.len() + 1;
     }
+    Ok(())
 }
 
-fn main() {
-    let fd = os::open_read(b"list");
-    if fd < 0 {
-        os::fail(b"list");
-        return;
-    }
-    let mut buffer = io::large_buffer();
-    let n = io::read_full(fd, &mut buffer);
-    libc::close(fd);
-    each_line(&buffer[..n]);
+fn main(rt: HostRuntime) -> io::Result<()> {
+    let mut buffer = [0u8; 65536];
+    let Some(n) = script::read_file(&rt, b"list", &mut buffer)? else {
+        return Ok(());
+    };
+    each_line(&rt, &buffer[..n])
 }

@@ -3,80 +3,66 @@
 #![tactic(auto)]
 
 use function::Function;
-use libc::STDOUT_FILENO;
 use meta::SourceFile;
 use metric::{Metric, Scope, Summary};
+use std::io;
+use std::rt::Files;
 
 // No UTF-8: it is handed back whole all the same.
 const PLACEHOLDER: [u8; 1] = [0xFF];
 
-fn word(n: u64) {
-    io::write_all(STDOUT_FILENO, b" ");
-    io::print_decimal(STDOUT_FILENO, n);
+fn word(rt: &impl Print, n: u64) -> io::Result<()> {
+    print!(rt; " {n}")
 }
 
-fn end(bytes: &[u8]) {
-    io::write_all(STDOUT_FILENO, b" ");
-    io::write_all(STDOUT_FILENO, bytes);
-    io::write_all(STDOUT_FILENO, b"\n");
+fn end(rt: &impl Print, bytes: &[u8]) -> io::Result<()> {
+    rt.write_all(b" ")?;
+    rt.write_all(bytes)?;
+    println!(rt)
 }
 
-fn general(file: &[u8]) {
+fn general(rt: &impl Print, file: &[u8]) -> io::Result<()> {
     let mut refusal = 0u64;
     let title = meta::title(file, &mut refusal);
-    io::write_all(STDOUT_FILENO, b"title");
-    word(refusal);
-    end(title);
+    print!(rt; "title {refusal}")?;
+    end(rt, title)?;
     let description = meta::description(file, &mut refusal);
-    io::write_all(STDOUT_FILENO, b"description");
-    word(refusal);
-    end(description);
+    print!(rt; "description {refusal}")?;
+    end(rt, description)
 }
 
-fn kind(file: &[u8], i: u64) {
+fn kind(rt: &impl Print, file: &[u8], i: u64) -> io::Result<()> {
     let mut refusal = 0u64;
     let name = meta::kind_name(file, i, &mut refusal);
-    io::write_all(STDOUT_FILENO, b"kind");
-    word(i);
-    word(refusal);
-    end(name);
+    print!(rt; "kind {i} {refusal}")?;
+    end(rt, name)
 }
 
-fn module(file: &[u8], i: u64) {
+fn module(rt: &impl Print, file: &[u8], i: u64) -> io::Result<()> {
     let mut refusal = 0u64;
     let path = meta::module_path(file, i, &mut refusal);
-    io::write_all(STDOUT_FILENO, b"module");
-    word(i);
-    word(refusal);
-    end(path);
+    print!(rt; "module {i} {refusal}")?;
+    end(rt, path)
 }
 
-fn source(file: &[u8], i: u64) {
+fn source(rt: &impl Print, file: &[u8], i: u64) -> io::Result<()> {
     let mut refusal = 0u64;
     let path = meta::source_path(file, i, &mut refusal);
-    io::write_all(STDOUT_FILENO, b"source");
-    word(i);
-    word(refusal);
-    match meta::source_file(file, i) {
+    let copied = match meta::source_file(file, i) {
         SourceFile::Found {
             place: _,
             length: _,
             copied,
-        } => {
-            if copied {
-                word(1);
-            } else {
-                word(0);
-            }
-        }
-        SourceFile::Refused(_) => word(0),
-    }
-    end(path);
+        } => copied,
+        SourceFile::Refused(_) => false,
+    };
+    print!(rt; "source {i} {refusal} {}", u8::from(copied))?;
+    end(rt, path)
 }
 
-fn function(file: &[u8], i: u64) {
-    io::write_all(STDOUT_FILENO, b"function");
-    word(i);
+fn function(rt: &impl Print, file: &[u8], i: u64) -> io::Result<()> {
+    print!(rt; "function")?;
+    word(rt, i)?;
     match function::function_at(file, i) {
         Function::Found {
             name: _,
@@ -86,56 +72,55 @@ fn function(file: &[u8], i: u64) {
             file: source,
             line,
         } => {
-            word(0);
-            word(module);
-            word(offset);
-            word(source);
-            word(line);
+            word(rt, 0)?;
+            word(rt, module)?;
+            word(rt, offset)?;
+            word(rt, source)?;
+            word(rt, line)?;
         }
         Function::Refused(r) => {
-            word(refusal::number(r));
-            word(0);
-            word(0);
-            word(0);
-            word(0);
+            word(rt, refusal::number(r))?;
+            word(rt, 0)?;
+            word(rt, 0)?;
+            word(rt, 0)?;
+            word(rt, 0)?;
         }
     }
-    function_name(file, &PLACEHOLDER, i);
+    function_name(rt, file, &PLACEHOLDER, i)
 }
 
-fn function_name<'a>(file: &'a [u8], placeholder: &'a [u8], i: u64) {
+fn function_name<'a>(
+    rt: &impl Print,
+    file: &'a [u8],
+    placeholder: &'a [u8],
+    i: u64,
+) -> io::Result<()> {
     let mut which = 0u64;
     let name = function::function_name(file, placeholder, i, &mut which);
-    word(which);
-    end(name);
+    word(rt, which)?;
+    end(rt, name)
 }
 
-fn one(file: &[u8], what: u64, i: u64) {
+fn one(rt: &impl Print, file: &[u8], what: u64, i: u64) -> io::Result<()> {
     match what {
-        0 => kind(file, i),
-        1 => module(file, i),
-        2 => source(file, i),
-        _ => function(file, i),
+        0 => kind(rt, file, i),
+        1 => module(rt, file, i),
+        2 => source(rt, file, i),
+        _ => function(rt, file, i),
     }
 }
 
-fn each(file: &[u8], what: u64, n: u64) {
-    let mut i = 0u64;
-    while i < n {
-        one(file, what, i);
-        i += 1;
+fn each(rt: &impl Print, file: &[u8], what: u64, n: u64) -> io::Result<()> {
+    for i in 0..n {
+        one(rt, file, what, i)?;
     }
-    one(file, what, n);
+    one(rt, file, what, n)
 }
 
-fn summary(file: &[u8], m: u64, s: u64, k: u64) {
+fn summary(rt: &impl Print, file: &[u8], m: u64, s: u64, k: u64) -> io::Result<()> {
     let mut refusal = 0u64;
     let formula = metric::summary_formula(file, m, s, k, &mut refusal);
-    io::write_all(STDOUT_FILENO, b"summary");
-    word(m);
-    word(s);
-    word(k);
-    word(refusal);
+    print!(rt; "summary {m} {s} {k} {refusal}")?;
     match metric::summary_at(file, m, s, k) {
         Summary::Found {
             formula: _,
@@ -143,139 +128,107 @@ fn summary(file: &[u8], m: u64, s: u64, k: u64) {
             combine,
             stat_metric_id,
         } => {
-            word(combine);
-            word(stat_metric_id);
+            word(rt, combine)?;
+            word(rt, stat_metric_id)?;
         }
         Summary::Refused(_) => {
-            word(0);
-            word(0);
+            word(rt, 0)?;
+            word(rt, 0)?;
         }
     }
-    end(formula);
+    end(rt, formula)
 }
 
-fn summaries(file: &[u8], m: u64, s: u64, n: u64) {
-    let mut k = 0u64;
-    while k < n {
-        summary(file, m, s, k);
-        k += 1;
+fn summaries(rt: &impl Print, file: &[u8], m: u64, s: u64, n: u64) -> io::Result<()> {
+    for k in 0..n {
+        summary(rt, file, m, s, k)?;
     }
-    summary(file, m, s, n);
+    summary(rt, file, m, s, n)
 }
 
-fn scope(file: &[u8], m: u64, s: u64) {
+fn scope(rt: &impl Print, file: &[u8], m: u64, s: u64) -> io::Result<()> {
     let mut refusal = 0u64;
     let name = metric::scope_name(file, m, s, &mut refusal);
-    let mut n = 0u64;
-    let mut id = 0u64;
-    if let Scope::Found {
-        name: _,
-        length: _,
-        summaries,
-        prop_metric_id,
-    } = metric::scope_at(file, m, s)
-    {
-        n = summaries;
-        id = prop_metric_id;
-    }
-    io::write_all(STDOUT_FILENO, b"scope");
-    word(m);
-    word(s);
-    word(refusal);
-    word(n);
-    word(id);
-    end(name);
-    summaries(file, m, s, n);
+    let (n, id) = match metric::scope_at(file, m, s) {
+        Scope::Found {
+            name: _,
+            length: _,
+            summaries,
+            prop_metric_id,
+        } => (summaries, prop_metric_id),
+        Scope::Refused(_) => (0, 0),
+    };
+    print!(rt; "scope {m} {s} {refusal} {n} {id}")?;
+    end(rt, name)?;
+    summaries(rt, file, m, s, n)
 }
 
-fn scopes(file: &[u8], m: u64, n: u64) {
-    let mut s = 0u64;
-    while s < n {
-        scope(file, m, s);
-        s += 1;
+fn scopes(rt: &impl Print, file: &[u8], m: u64, n: u64) -> io::Result<()> {
+    for s in 0..n {
+        scope(rt, file, m, s)?;
     }
-    scope(file, m, n);
+    scope(rt, file, m, n)
 }
 
-fn metric(file: &[u8], m: u64) {
+fn metric(rt: &impl Print, file: &[u8], m: u64) -> io::Result<()> {
     let mut refusal = 0u64;
     let name = metric::metric_name(file, m, &mut refusal);
-    let mut n = 0u64;
-    if let Metric::Found {
-        name: _,
-        length: _,
-        scopes,
-    } = metric::metric_at(file, m)
-    {
-        n = scopes;
-    }
-    io::write_all(STDOUT_FILENO, b"metric");
-    word(m);
-    word(refusal);
-    word(n);
-    end(name);
-    scopes(file, m, n);
+    let n = match metric::metric_at(file, m) {
+        Metric::Found {
+            name: _,
+            length: _,
+            scopes,
+        } => scopes,
+        Metric::Refused(_) => 0,
+    };
+    print!(rt; "metric {m} {refusal} {n}")?;
+    end(rt, name)?;
+    scopes(rt, file, m, n)
 }
 
-fn metrics(file: &[u8], n: u64) {
-    let mut m = 0u64;
-    while m < n {
-        metric(file, m);
-        m += 1;
+fn metrics(rt: &impl Print, file: &[u8], n: u64) -> io::Result<()> {
+    for m in 0..n {
+        metric(rt, file, m)?;
     }
-    metric(file, n);
+    metric(rt, file, n)
 }
 
-fn show(name: &[u8], file: &[u8]) {
-    io::write_all(STDOUT_FILENO, b"file");
-    end(name);
-    general(file);
+fn show(rt: &impl Print, name: &[u8], file: &[u8]) -> io::Result<()> {
+    print!(rt; "file")?;
+    end(rt, name)?;
+    general(rt, file)?;
     let mut refusal = 0u64;
-    let n = meta::counts(file, &mut refusal);
-    io::write_all(STDOUT_FILENO, b"counts");
-    word(refusal);
-    word(n[0]);
-    word(n[1]);
-    word(n[2]);
-    word(n[3]);
-    word(n[4]);
-    io::write_all(STDOUT_FILENO, b"\n");
-    each(file, 0, n[0]);
-    each(file, 1, n[2]);
-    each(file, 2, n[3]);
-    each(file, 3, n[4]);
-    metrics(file, n[1]);
+    let [kinds, metric_count, modules, sources, functions] = meta::counts(file, &mut refusal);
+    println!(rt; "counts {refusal} {kinds} {metric_count} {modules} {sources} {functions}")?;
+    each(rt, file, 0, kinds)?;
+    each(rt, file, 1, modules)?;
+    each(rt, file, 2, sources)?;
+    each(rt, file, 3, functions)?;
+    metrics(rt, file, metric_count)
 }
 
-fn case(name: &[u8]) {
-    let fd = os::open_read(name);
-    if fd < 0 {
-        os::fail(name);
-        return;
-    }
-    let mut buffer = io::buffer();
-    let n = io::read_full(fd, &mut buffer);
-    libc::close(fd);
-    show(name, &buffer[..n]);
+fn case(rt: &(impl Files + Print + Eprint), name: &[u8]) -> io::Result<()> {
+    let mut buffer = [0u8; 4096];
+    let Some(n) = script::read_file(rt, name, &mut buffer)? else {
+        return Ok(());
+    };
+    show(rt, name, &buffer[..n])
 }
 
-fn each_line(list: &[u8]) {
+fn each_line(rt: &(impl Files + Print + Eprint), list: &[u8]) -> io::Result<()> {
     let mut at = 0;
     while at < list.len() {
         let name = script::line(list, at);
-        case(name);
+        case(rt, name)?;
         at = at + name.len() + 1;
     }
+    Ok(())
 }
 
-fn main() {
-    let fd = os::open_read(b"list");
-    if fd < 0 {
-        os::fail(b"list");
-        return;
-    }
-    let mut buffer = io::buffer();
-    let n = io::read_full(fd, &mut buffer);
-    libc::close(fd);
-    each_line(&buffer[..n]);
+fn main(rt: HostRuntime) -> io::Result<()> {
+    let mut buffer = [0u8; 4096];
+    let Some(n) = script::read_file(&rt, b"list", &mut buffer)? else {
+        return Ok(());
+    };
+    each_line(&rt, &buffer[..n])
 }

@@ -3,45 +3,41 @@
 #![tactic(auto)]
 
 use count::Count;
-use libc::STDOUT_FILENO;
+use std::io;
+use std::rt::Files;
 use trace::{Line, Sample};
 use tuple::{Identifier, Tuple};
 
-fn spaced(n: u64) {
-    io::write_all(STDOUT_FILENO, b" ");
-    io::print_decimal(STDOUT_FILENO, n);
+fn spaced(rt: &impl Print, n: u64) -> io::Result<()> {
+    print!(rt; " {n}")
 }
 
-fn refused(r: refusal::Refusal) {
-    io::write_all(STDOUT_FILENO, b" refused");
-    spaced(refusal::number(r));
+fn refused(rt: &impl Print, r: refusal::Refusal) -> io::Result<()> {
+    print!(rt; " refused")?;
+    spaced(rt, refusal::number(r))
 }
 
-fn show_count(answer: Count) {
+fn show_count(rt: &impl Print, answer: Count) -> io::Result<()> {
     match answer {
         Count::Of(n) => {
-            io::write_all(STDOUT_FILENO, b" count");
-            spaced(n);
+            print!(rt; " count")?;
+            spaced(rt, n)
         }
-        Count::Refused(r) => {
-            refused(r);
-        }
+        Count::Refused(r) => refused(rt, r),
     }
 }
 
-fn show_tuple(answer: Tuple) {
+fn show_tuple(rt: &impl Print, answer: Tuple) -> io::Result<()> {
     match answer {
         Tuple::Of(a) => {
-            io::write_all(STDOUT_FILENO, b" tuple");
-            spaced(a.count);
+            print!(rt; " tuple")?;
+            spaced(rt, a.count)
         }
-        Tuple::Refused(r) => {
-            refused(r);
-        }
+        Tuple::Refused(r) => refused(rt, r),
     }
 }
 
-fn show_identifier(answer: Identifier) {
+fn show_identifier(rt: &impl Print, answer: Identifier) -> io::Result<()> {
     match answer {
         Identifier::Of {
             kind,
@@ -49,84 +45,78 @@ fn show_identifier(answer: Identifier) {
             logical,
             physical,
         } => {
-            io::write_all(STDOUT_FILENO, b" identifier");
-            spaced(kind);
-            spaced(flags);
-            spaced(logical);
-            spaced(physical);
+            print!(rt; " identifier")?;
+            spaced(rt, kind)?;
+            spaced(rt, flags)?;
+            spaced(rt, logical)?;
+            spaced(rt, physical)
         }
-        Identifier::Refused(r) => {
-            refused(r);
-        }
+        Identifier::Refused(r) => refused(rt, r),
     }
 }
 
-fn show_line(answer: Line) {
+fn show_line(rt: &impl Print, answer: Line) -> io::Result<()> {
     match answer {
         Line::Of {
             profile,
             place: _,
             samples,
         } => {
-            io::write_all(STDOUT_FILENO, b" line");
-            spaced(profile);
-            spaced(samples);
+            print!(rt; " line")?;
+            spaced(rt, profile)?;
+            spaced(rt, samples)
         }
-        Line::Refused(r) => {
-            refused(r);
-        }
+        Line::Refused(r) => refused(rt, r),
     }
 }
 
-fn show_sample(answer: Sample) {
+fn show_sample(rt: &impl Print, answer: Sample) -> io::Result<()> {
     match answer {
         Sample::At {
             position,
             time,
             context,
         } => {
-            io::write_all(STDOUT_FILENO, b" sample");
-            spaced(position);
-            spaced(time);
-            spaced(context);
+            print!(rt; " sample")?;
+            spaced(rt, position)?;
+            spaced(rt, time)?;
+            spaced(rt, context)
         }
-        Sample::Absent => {
-            io::write_all(STDOUT_FILENO, b" absent");
-        }
-        Sample::Refused(r) => {
-            refused(r);
-        }
+        Sample::Absent => print!(rt; " absent"),
+        Sample::Refused(r) => refused(rt, r),
     }
 }
 
 // By the first letter of the kind.
-fn ask(kind: u8, file: &[u8], a: u64, b: u64) {
+fn ask(rt: &impl Print, kind: u8, file: &[u8], a: u64, b: u64) -> io::Result<()> {
     match kind {
-        b'p' => show_count(count::profiles(file)),
-        b'c' => show_count(count::contexts(file)),
-        b'l' => show_count(count::lines(file)),
-        b't' => show_tuple(tuple::tuple_at(file, a)),
-        b'i' => show_identifier(tuple::identifier_at(file, a, b)),
-        b'h' => show_line(trace::line_at(file, a)),
-        b's' => show_sample(trace::sample_at(file, a, b)),
-        _ => show_sample(trace::last_at(file, a, b)),
+        b'p' => show_count(rt, count::profiles(file)),
+        b'c' => show_count(rt, count::contexts(file)),
+        b'l' => show_count(rt, count::lines(file)),
+        b't' => show_tuple(rt, tuple::tuple_at(file, a)),
+        b'i' => show_identifier(rt, tuple::identifier_at(file, a, b)),
+        b'h' => show_line(rt, trace::line_at(file, a)),
+        b's' => show_sample(rt, trace::sample_at(file, a, b)),
+        _ => show_sample(rt, trace::last_at(file, a, b)),
     }
 }
 
-fn case(kind: u8, name: &[u8], a: u64, b: u64) {
-    let fd = os::open_read(name);
-    if fd < 0 {
-        os::fail(name);
-        return;
-    }
+fn case(
+    rt: &(impl Files + Print + Eprint),
+    kind: u8,
+    name: &[u8],
+    a: u64,
+    b: u64,
+) -> io::Result<()> {
     let mut buffer = [0u8; 32769];
-    let n = io::read_full(fd, &mut buffer);
-    libc::close(fd);
-    ask(kind, &buffer[..n], a, b);
+    let Some(n) = script::read_file(rt, name, &mut buffer)? else {
+        return Ok(());
+    };
+    ask(rt, kind, &buffer[..n], a, b)
 }
 
-fn row(line: &[u8]) {
-    io::write_all(STDOUT_FILENO, line);
+fn row(rt: &(impl Files + Print + Eprint), line: &[u8]) -> io::Result<()> {
+    rt.write_all(line)?;
     let kind = script::word(line, 0);
     let at = kind.len() + 1;
     let name = script::word(line, at);
@@ -134,28 +124,25 @@ fn row(line: &[u8]) {
     let a = script::word(line, first);
     let b = script::word(line, first + a.len() + 1);
     if 0 < kind.len() {
-        case(kind[0], name, script::decimal(a), script::decimal(b));
+        case(rt, kind[0], name, script::decimal(a), script::decimal(b))?;
     }
-    io::write_all(STDOUT_FILENO, b"\n");
+    println!(rt)
 }
 
-fn each_line(list: &[u8]) {
+fn each_line(rt: &(impl Files + Print + Eprint), list: &[u8]) -> io::Result<()> {
     let mut at = 0;
     while at < list.len() {
         let line = script::line(list, at);
-        row(line);
+        row(rt, line)?;
         at = at + line.len() + 1;
     }
+    Ok(())
 }
 
-fn main() {
-    let fd = os::open_read(b"list");
-    if fd < 0 {
-        os::fail(b"list");
-        return;
-    }
-    let mut buffer = io::large_buffer();
-    let n = io::read_full(fd, &mut buffer);
-    libc::close(fd);
-    each_line(&buffer[..n]);
+fn main(rt: HostRuntime) -> io::Result<()> {
+    let mut buffer = [0u8; 65536];
+    let Some(n) = script::read_file(&rt, b"list", &mut buffer)? else {
+        return Ok(());
+    };
+    each_line(&rt, &buffer[..n])
 }

@@ -12,19 +12,32 @@ use traversal::Walked;
 // The longest file that the listing program takes.
 const LONGEST: usize = 32768;
 
+fn number(rt: &impl Print, n: u64) -> io::Result<()> {
+    print!(rt; "{n}")
+}
+
+fn spaced(rt: &impl Print, n: u64) -> io::Result<()> {
+    print!(rt; " ")?;
+    number(rt, n)
+}
+
+fn newline(rt: &impl Print) -> io::Result<()> {
+    println!(rt)
+}
+
 // Place, depth, id, type, relation and parent of the i-th context, if its record is there.
 fn context(rt: &impl Print, records: &[u64], i: usize) -> io::Result<()> {
     if records.len() / RECORD <= i {
         return Ok(());
     }
     let at = i * RECORD;
-    let place = records[at];
-    let depth = records[at + 1];
-    let id = records[at + 2];
-    let relation = records[at + 3];
-    let kind = records[at + 4];
-    let parent = records[at + PARENT];
-    println!(rt; "{place} {depth} {id} {kind} {relation} {parent}")
+    number(rt, records[at])?;
+    spaced(rt, records[at + 1])?;
+    spaced(rt, records[at + 2])?;
+    spaced(rt, records[at + 4])?;
+    spaced(rt, records[at + 3])?;
+    spaced(rt, records[at + PARENT])?;
+    newline(rt)
 }
 
 fn contexts(rt: &impl Print, records: &[u64], n: usize) -> io::Result<()> {
@@ -47,10 +60,15 @@ fn listed(walked: Walked) -> usize
 
 fn end(rt: &impl Print, walked: Walked) -> io::Result<()> {
     match walked {
-        Walked::Complete(n) => println!(rt; "whole {n}"),
-        Walked::Truncated(n) => println!(rt; "cut {n}"),
-        Walked::Refused(r, n) => println!(rt; "refused {} {n}", refusal::number(r)),
+        Walked::Complete(_) => print!(rt; "whole")?,
+        Walked::Truncated(_) => print!(rt; "cut")?,
+        Walked::Refused(r, _) => {
+            print!(rt; "refused")?;
+            spaced(rt, refusal::number(r))?;
+        }
     }
+    spaced(rt, listed(walked) as u64)?;
+    newline(rt)
 }
 
 // Walks a file with these slices, prints a heading, each context whose record there is room for, and the end; gives the number listed.

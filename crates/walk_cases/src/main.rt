@@ -5,18 +5,18 @@
 ghost use Rattle.std.specs.Prelude.{◌≤◌};
 
 use context::{PARENT, RECORD};
-use libc::STDOUT_FILENO;
+use std::io;
+use std::rt::Files;
 
 // What the table holds before a walk.
 const BEFORE: u64 = 7;
 
-fn spaced(n: u64) {
-    io::write_all(STDOUT_FILENO, b" ");
-    io::print_decimal(STDOUT_FILENO, n);
+fn spaced(rt: &impl Print, n: u64) -> io::Result<()> {
+    print!(rt; " {n}")
 }
 
-fn newline() {
-    io::write_all(STDOUT_FILENO, b"\n");
+fn newline(rt: &impl Print) -> io::Result<()> {
+    println!(rt)
 }
 
 // A decimal number, at most 1,024.
@@ -28,134 +28,126 @@ fn room(text: &[u8]) -> usize
 }
 
 // Place, flags, function, file, line, module and offset of the i-th context: the words before its parent.
-fn flex(records: &[u64], i: usize) {
+fn flex(rt: &impl Print, records: &[u64], i: usize) -> io::Result<()> {
     if records.len() / RECORD <= i {
-        return;
+        return Ok(());
     }
     let at = i * RECORD;
     if records[at + 5] == 0 {
-        return;
+        return Ok(());
     }
-    io::write_all(STDOUT_FILENO, b"flex");
-    spaced(records[at]);
-    let mut k = 5;
-    while k < PARENT {
-        spaced(records[at + k]);
-        k += 1;
+    print!(rt; "flex")?;
+    spaced(rt, records[at])?;
+    for k in 5..PARENT {
+        spaced(rt, records[at + k])?;
     }
-    newline();
+    newline(rt)
 }
 
-fn each_flex(records: &[u64], n: usize) {
-    let mut i = 0;
-    while i < n {
-        flex(records, i);
-        i += 1;
+fn each_flex(rt: &impl Print, records: &[u64], n: usize) -> io::Result<()> {
+    for i in 0..n {
+        flex(rt, records, i)?;
     }
+    Ok(())
 }
 
-fn filled(table: &[u64]) {
-    io::write_all(STDOUT_FILENO, b"table");
-    let mut i = 0;
-    while i < table.len() {
-        if table[i] != 0 {
-            spaced(i as u64);
-            spaced(table[i]);
+fn filled(rt: &impl Print, table: &[u64]) -> io::Result<()> {
+    print!(rt; "table")?;
+    for (i, word) in table.iter().enumerate() {
+        if *word != 0 {
+            spaced(rt, i as u64)?;
+            spaced(rt, *word)?;
         }
-        i += 1;
     }
-    newline();
+    newline(rt)
 }
 
 fn untouched(table: &[u64]) -> bool {
-    let mut i = 0;
-    while i < table.len() {
-        if table[i] != BEFORE {
-            return false;
-        }
-        i += 1;
-    }
-    true
+    table.iter().all(|word| *word == BEFORE)
 }
 
-fn slots(file: &[u8], table: &[u64]) {
+fn slots(rt: &impl Print, file: &[u8], table: &[u64]) -> io::Result<()> {
     let mut refusal = 0u64;
     open::open_meta(file, &mut refusal);
     if refusal == 0 {
-        filled(table);
-        return;
+        return filled(rt, table);
     }
     if untouched(table) {
-        io::write_all(STDOUT_FILENO, b"table untouched\n");
+        println!(rt; "table untouched")
     } else {
-        io::write_all(STDOUT_FILENO, b"table changed\n");
+        println!(rt; "table changed")
     }
 }
 
-fn walked(file: &[u8], listing: &mut [u64], table: &mut [u64]) {
+fn walked(rt: &impl Print, file: &[u8], listing: &mut [u64], table: &mut [u64]) -> io::Result<()> {
     let mut records = [BEFORE; 1024 * RECORD];
-    let n = report::show(file, listing, table, &mut records);
-    each_flex(&records, n);
-    slots(file, table);
+    let n = report::show(rt, file, listing, table, &mut records)?;
+    each_flex(rt, &records, n)?;
+    slots(rt, file, table)
 }
 
 // With as many words of each slice.
-fn with_room(file: &[u8], listing: &mut [u64], room: usize, table: &mut [u64], size: usize) {
+fn with_room(
+    rt: &impl Print,
+    file: &[u8],
+    listing: &mut [u64],
+    room: usize,
+    table: &mut [u64],
+    size: usize,
+) -> io::Result<()> {
     if listing.len() < room {
-        return;
+        return Ok(());
     }
     if table.len() < size {
-        return;
+        return Ok(());
     }
-    walked(file, &mut listing[..room], &mut table[..size]);
+    walked(rt, file, &mut listing[..room], &mut table[..size])
 }
 
-fn case(name: &[u8], room: usize, size: usize) {
-    let fd = os::open_read(name);
-    if fd < 0 {
-        os::fail(name);
-        return;
-    }
+fn case(
+    rt: &(impl Files + Print + Eprint),
+    name: &[u8],
+    room: usize,
+    size: usize,
+) -> io::Result<()> {
     let mut buffer = [0u8; 32769];
-    let n = io::read_full(fd, &mut buffer);
-    libc::close(fd);
-    if report::too_long(&buffer[..n]) {
-        return;
+    let Some(n) = script::read_file(rt, name, &mut buffer)? else {
+        return Ok(());
+    };
+    if report::too_long(rt, &buffer[..n])? {
+        return Ok(());
     }
     let mut listing = [BEFORE; 1024];
     let mut table = [BEFORE; 1024];
-    with_room(&buffer[..n], &mut listing, room, &mut table, size);
+    with_room(rt, &buffer[..n], &mut listing, room, &mut table, size)
 }
 
 // A line: a file's name, and the words of the listing and of the table.
-fn row(line: &[u8]) {
-    io::write_all(STDOUT_FILENO, b"== ");
-    io::write_all(STDOUT_FILENO, line);
-    newline();
+fn row(rt: &(impl Files + Print + Eprint), line: &[u8]) -> io::Result<()> {
+    print!(rt; "== ")?;
+    rt.write_all(line)?;
+    newline(rt)?;
     let name = script::word(line, 0);
     let at = name.len() + 1;
     let words = script::word(line, at);
     let slots = script::word(line, at + words.len() + 1);
-    case(name, room(words), room(slots));
+    case(rt, name, room(words), room(slots))
 }
 
-fn each_line(list: &[u8]) {
+fn each_line(rt: &(impl Files + Print + Eprint), list: &[u8]) -> io::Result<()> {
     let mut at = 0;
     while at < list.len() {
         let line = script::line(list, at);
-        row(line);
+        row(rt, line)?;
         at = at + line.len() + 1;
     }
+    Ok(())
 }
 
-fn main() {
-    let fd = os::open_read(b"list");
-    if fd < 0 {
-        os::fail(b"list");
-        return;
-    }
-    let mut buffer = io::large_buffer();
-    let n = io::read_full(fd, &mut buffer);
-    libc::close(fd);
-    each_line(&buffer[..n]);
+fn main(rt: HostRuntime) -> io::Result<()> {
+    let mut buffer = [0u8; 65536];
+    let Some(n) = script::read_file(&rt, b"list", &mut buffer)? else {
+        return Ok(());
+    };
+    each_line(&rt, &buffer[..n])
 }

@@ -6,8 +6,9 @@
 
 ghost use Rattle.std.specs.Prelude.{◌≡◌, length};
 
-use libc::STDOUT_FILENO;
 use profile_writer::Written;
+use std::io;
+use std::rt::Files;
 
 // What the lent bytes hold before.
 const BEFORE: u8 = 255;
@@ -20,13 +21,12 @@ const WORDS: usize = 64;
 
 const WIDTH: usize = 32;
 
-fn spaced(n: u64) {
-    io::write_all(STDOUT_FILENO, b" ");
-    io::print_decimal(STDOUT_FILENO, n);
+fn spaced(rt: &impl Print, n: u64) -> io::Result<()> {
+    print!(rt; " {n}")
 }
 
-fn newline() {
-    io::write_all(STDOUT_FILENO, b"\n");
+fn newline(rt: &impl Print) -> io::Result<()> {
+    println!(rt)
 }
 
 // A decimal number, at most 2,000,000.
@@ -67,97 +67,117 @@ fn first_words(words: &[u64], n: usize) -> &[u64] {
 }
 
 fn zeros(part: &[u8]) -> bool {
-    let mut i = 0;
-    while i < part.len() {
-        if part[i] != 0 {
-            return false;
-        }
-        i += 1;
-    }
-    true
+    part.iter().all(|byte| *byte == 0)
 }
 
 // Two digits.
-fn digits(byte: u8) {
-    io::print_hex(STDOUT_FILENO, byte as u64, 2);
+fn digits(rt: &impl Print, byte: u8) -> io::Result<()> {
+    print!(rt; "{byte:02x}")
 }
 
-fn hexadecimal(part: &[u8]) {
-    let mut i = 0;
-    while i < part.len() {
-        digits(part[i]);
-        i += 1;
+fn hexadecimal(rt: &impl Print, part: &[u8]) -> io::Result<()> {
+    for byte in part {
+        digits(rt, *byte)?;
     }
+    Ok(())
 }
 
-fn row(at: usize, part: &[u8]) {
+fn row(rt: &impl Print, at: usize, part: &[u8]) -> io::Result<()> {
     if zeros(part) {
-        return;
+        return Ok(());
     }
-    io::print_decimal(STDOUT_FILENO, at as u64);
-    io::write_all(STDOUT_FILENO, b" ");
-    hexadecimal(part);
-    newline();
+    print!(rt; "{at} ")?;
+    hexadecimal(rt, part)?;
+    newline(rt)
 }
 
-fn rows(file: &[u8]) {
+fn rows(rt: &impl Print, file: &[u8]) -> io::Result<()> {
     let mut at = 0;
     while at < file.len() {
         if file.len() - at <= WIDTH {
-            row(at, &file[at..]);
-            return;
+            return row(rt, at, &file[at..]);
         }
         let end = at + WIDTH;
-        row(at, &file[at..end]);
+        row(rt, at, &file[at..end])?;
         at = end;
     }
+    Ok(())
 }
 
-fn show(answer: Written) {
+fn show(rt: &impl Print, answer: Written) -> io::Result<()> {
     match answer {
         Written::Of(length) => {
-            io::write_all(STDOUT_FILENO, b"written");
-            spaced(length);
+            print!(rt; "written")?;
+            spaced(rt, length)?;
         }
         Written::Refused(r) => {
-            io::write_all(STDOUT_FILENO, b"refused");
-            spaced(refusal::number(r));
+            print!(rt; "refused")?;
+            spaced(rt, refusal::number(r))?;
         }
     }
-    newline();
+    newline(rt)
 }
 
-fn write(profiles: &[u64], tuples: &[u64], identifiers: &[u8], entries: &[u8], file: &mut [u8]) {
-    show(profile_writer::write(profiles, tuples, identifiers, entries, file));
-    rows(file);
+fn write(
+    rt: &impl Print,
+    profiles: &[u64],
+    tuples: &[u64],
+    identifiers: &[u8],
+    entries: &[u8],
+    file: &mut [u8],
+) -> io::Result<()> {
+    show(
+        rt,
+        profile_writer::write(profiles, tuples, identifiers, entries, file),
+    )?;
+    rows(rt, file)
 }
 
 // With as many bytes for the file.
 fn with_room(
+    rt: &impl Print,
     profiles: &[u64],
     tuples: &[u64],
     identifiers: &[u8],
     entries: &[u8],
     file: &mut [u8],
     room: usize,
-) {
+) -> io::Result<()> {
     if file.len() < room {
-        return;
+        return Ok(());
     }
-    write(profiles, tuples, identifiers, entries, &mut file[..room]);
+    write(
+        rt,
+        profiles,
+        tuples,
+        identifiers,
+        entries,
+        &mut file[..room],
+    )
 }
 
-fn with_entries(profiles: &[u64], tuples: &[u64], identifiers: &[u8], name: &[u8], room: usize) {
-    let fd = os::open_read(name);
-    if fd < 0 {
-        os::fail(name);
-        return;
-    }
-    let mut buffer = io::large_buffer();
-    let n = io::read_full(fd, &mut buffer);
-    libc::close(fd);
+fn with_entries(
+    rt: &(impl Files + Print + Eprint),
+    profiles: &[u64],
+    tuples: &[u64],
+    identifiers: &[u8],
+    name: &[u8],
+    room: usize,
+) -> io::Result<()> {
+    let mut buffer = [0u8; 65536];
+    let Some(n) = script::read_file(rt, name, &mut buffer)? else {
+        return Ok(());
+    };
     let mut file = [BEFORE; LONGEST];
-    with_room(profiles, tuples, identifiers, &buffer[..n], &mut file, room);
+    with_room(
+        rt,
+        profiles,
+        tuples,
+        identifiers,
+        &buffer[..n],
+        &mut file,
+        room,
+    )
 }
 
 // Zeros, of a length that a caller knows without counting them.
@@ -168,50 +188,58 @@ fn no_identifiers() -> [u8; IDENTIFIERS]
 }
 
 // The first line of a case, and the words of the others.
-fn case(line: &[u8], profiles: &[u64], tuples: &[u64]) {
+fn case(
+    rt: &(impl Files + Print + Eprint),
+    line: &[u8],
+    profiles: &[u64],
+    tuples: &[u64],
+) -> io::Result<()> {
     let name = script::word(line, 0);
     let second = name.len() + 1;
     let bytes = script::word(line, second);
     let third = second + bytes.len() + 1;
     let entries = script::word(line, third);
     let room = script::word(line, third + entries.len() + 1);
-    let fd = os::open_read(name);
-    if fd < 0 {
-        os::fail(name);
-        return;
-    }
     let mut buffer = no_identifiers();
-    io::read_full(fd, &mut buffer);
-    libc::close(fd);
+    let Some(_) = script::read_file(rt, name, &mut buffer)? else {
+        return Ok(());
+    };
     with_entries(
+        rt,
         profiles,
         tuples,
         first(&buffer, size(bytes)),
         entries,
         size(room),
-    );
+    )
 }
 
-fn lines(line: &[u8], profiles: &[u8], tuples: &[u8]) {
-    io::write_all(STDOUT_FILENO, b"== ");
-    io::write_all(STDOUT_FILENO, line);
-    newline();
-    io::write_all(STDOUT_FILENO, profiles);
-    newline();
-    io::write_all(STDOUT_FILENO, tuples);
-    newline();
+fn lines(
+    rt: &(impl Files + Print + Eprint),
+    line: &[u8],
+    profiles: &[u8],
+    tuples: &[u8],
+) -> io::Result<()> {
+    print!(rt; "== ")?;
+    rt.write_all(line)?;
+    newline(rt)?;
+    rt.write_all(profiles)?;
+    newline(rt)?;
+    rt.write_all(tuples)?;
+    newline(rt)?;
     let mut of_profiles = [0u64; WORDS];
     let p = numbers(profiles, &mut of_profiles);
     let mut of_tuples = [0u64; WORDS];
     let t = numbers(tuples, &mut of_tuples);
     case(
+        rt,
         line,
         first_words(&of_profiles, p),
         first_words(&of_tuples, t),
-    );
+    )
 }
 
-fn each_case(list: &[u8]) {
+fn each_case(rt: &(impl Files + Print + Eprint), list: &[u8]) -> io::Result<()> {
     let mut at = 0;
     while at < list.len() {
         let line = script::line(list, at);
@@ -219,19 +247,16 @@ fn each_case(list: &[u8]) {
         let profiles = script::line(list, second);
         let third = second + profiles.len() + 1;
         let tuples = script::line(list, third);
-        lines(line, profiles, tuples);
+        lines(rt, line, profiles, tuples)?;
         at = third + tuples.len() + 1;
     }
+    Ok(())
 }
 
-fn main() {
-    let fd = os::open_read(b"list");
-    if fd < 0 {
-        os::fail(b"list");
-        return;
-    }
-    let mut buffer = io::large_buffer();
-    let n = io::read_full(fd, &mut buffer);
-    libc::close(fd);
-    each_case(&buffer[..n]);
+fn main(rt: HostRuntime) -> io::Result<()> {
+    let mut buffer = [0u8; 65536];
+    let Some(n) = script::read_file(&rt, b"list", &mut buffer)? else {
+        return Ok(());
+    };
+    each_case(&rt, &buffer[..n])
 }

@@ -1,9 +1,0 @@
--- The number left falls.
-use Prim.Native.Nat.{◌-◌}
-use Rattle.walk_cases.proofs.each_flex.Given as goal
-
-abbrev pub invariant-loop-i : goal.invariant-loop-i
-invariant-loop-i l = Unit
-
-abbrev pub decreases-loop-i : goal.decreases-loop-i
-decreases-loop-i l = l.n - l.i
