@@ -3,9 +3,7 @@ use Rattle.std.specs.Prelude.{ℕ, List, [], ◌∷◌, eqb}
 use Rattle.refusal.specs.Check.{either, if_passed}
 use Rattle.refusal.specs.Words.{refused_words}
 use Rattle.dcpi.specs.declared.SampleCount.{SampleCount}
-use Rattle.dcpi.specs.declared.SampleCount.TheVariants as SampleCount
 use Rattle.dcpi.specs.declared.SampleTotals.{SampleTotals}
-use Rattle.dcpi.specs.declared.SampleTotals.TheVariants as SampleTotals
 use Rattle.dcpi.specs.Samples.{total_offsets, total_samples, OffsetCount, sample_counts}
 use Rattle.dcpi.specs.Check.{samples_check}
 

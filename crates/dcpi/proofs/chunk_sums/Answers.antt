@@ -1,9 +1,9 @@
 -- A count more at each turn, which is zero or not.
-use Prim.Native.Nat.{◌-◌}
-use mathlib.Core.Logic.{⊎_elim}
+use Prim.Native.Nat.{◌≤◌}
 use native.Mathlib.Omega.{arith}
 use Rattle.dcpi.proofs.Summed.{summed_none, summed_zero, summed_more, summed_all}
 use Rattle.dcpi.proofs.chunk_sums.Goals as goal
+use Rattle.dcpi.proofs.chunk_sums.Goals.{then-count-eq0, else-count-eq0}
 
 pub loop-i-init : goal.loop-i-init
 loop-i-init c =
@@ -39,9 +39,17 @@ loop-i-smaller c =
 
 pub loop-i-preserved : goal.loop-i-preserved
 loop-i-preserved c =
-    ⊎_elim (λ w. rw w.1 (summed_zero _ _ _ c.loop-i.invariant c.loop-i-test.true c.packed_u32-count.result c.packed_u32-count.ensures (omega (arith, c.packed_u32-count.type_inv)) (omega arith) (omega (arith, w.0.taken))))
-    (λ w. rw w.1 (summed_more _ _ _ c.loop-i.invariant c.loop-i-test.true c.packed_u32-count.result c.packed_u32-count.ensures (omega (arith, c.packed_u32-count.type_inv)) (omega arith) (λ q. omega (arith, w.0.left))))
-    c.if-count-eq0.branch
+    let e = c.packed_u32-count.ensures in
+    let m : c.packed_u32-count.result ≤ 0xffff_ffff = omega (arith, c.packed_u32-count.type_inv) in
+    elim c.if-count-eq0.branch [
+      | then-count-eq0 w ↦
+          rw w.zeros-is
+          (summed_zero _ _ _ c.loop-i.invariant c.loop-i-test.true c.packed_u32-count.result e m (omega arith) (omega (arith, w.if-count-eq0.true)))
+      | else-count-eq0 w ↦
+          rw w.zeros-is
+          (summed_more _ _ _ c.loop-i.invariant c.loop-i-test.true c.packed_u32-count.result e m (omega arith)
+          (λ q. omega (arith, w.if-count-eq0.false)))
+    ]
 
 pub overflow_sub-nonzero : goal.overflow_sub-nonzero
 overflow_sub-nonzero c =
