@@ -25,7 +25,6 @@ use Rattle.seq.proofs.Search.{position_at, position_below, position_key}
 use Rattle.block.specs.declared.Shape.{Shape}
 use Rattle.block.specs.declared.Block.{Block}
 use Rattle.block.specs.declared.Lookup.{Lookup}
-use Rattle.block.specs.declared.Lookup.TheVariants as Lookup
 use Rattle.block.specs.declared.Lookup.TheVariants.{Found, Absent}
 use Rattle.block.specs.Block.{range_rule, start_of, end_of, part_of, part_at, outer_ids, inner_ids, id_at, word_at, order_rule, block_check, value_at, in_part, index_of, lookup_in}
 use Rattle.block.specs.OrderKept.{OrderKept}

@@ -1,6 +1,5 @@
 -- By the number of indices, then by the ranges.
 use Rattle.block.proofs.Ranges.{none_check, range_check, arrays_inside, order_check}
-use borrow.Author.Tests.{not-true, not-false}
 use mathlib.Core.Path.{sym, ◌∙◌}
 use native.Mathlib.Omega.{arith}
 use Rattle.block.proofs.check.Goals as goal

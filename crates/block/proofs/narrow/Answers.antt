@@ -15,7 +15,10 @@ Required file at n key from count w =
 
 pub halve-requires : goal.halve-requires
 halve-requires c =
-    let all = subst (Required c.args.file.now c.args.at c.args.n c.args.key c.args.from c.args.count) c.if-w-eq2.true (c.requires.elements_inside, c.requires.sorted, c.requires.key_bound, c.requires.window) in
+    let here : Required c.args.file.now c.args.at c.args.n c.args.key c.args.from c.args.count c.args.w =
+    (c.requires.elements_inside, (c.requires.sorted, (c.requires.key_bound, c.requires.window))) in
+    let all = subst (Required c.args.file.now c.args.at c.args.n c.args.key c.args.from c.args.count)
+    c.if-w-eq2.true here in
     record { elements_inside = all.0; sorted = all.1.0; key_bound = all.1.1.0; window = all.1.1.1 }
 
 pub returns-then-w-eq2 : goal.returns-then-w-eq2
@@ -24,7 +27,10 @@ returns-then-w-eq2 c =
 
 pub halve-requires-2 : goal.halve-requires-2
 halve-requires-2 c =
-    let all = subst (Required c.args.file.now c.args.at c.args.n c.args.key c.args.from c.args.count) (not_two c.requires.elements_inside.width c.if-w-eq2.false) (c.requires.elements_inside, c.requires.sorted, c.requires.key_bound, c.requires.window) in
+    let here : Required c.args.file.now c.args.at c.args.n c.args.key c.args.from c.args.count c.args.w =
+    (c.requires.elements_inside, (c.requires.sorted, (c.requires.key_bound, c.requires.window))) in
+    let all = subst (Required c.args.file.now c.args.at c.args.n c.args.key c.args.from c.args.count)
+    (not_two c.requires.elements_inside.width c.if-w-eq2.false) here in
     record { elements_inside = all.0; sorted = all.1.0; key_bound = all.1.1.0; window = all.1.1.1 }
 
 pub returns : goal.returns

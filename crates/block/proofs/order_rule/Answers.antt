@@ -5,10 +5,8 @@ use Rattle.block.proofs.Order.{inner_end}
 use Rattle.block.proofs.Parts.{start_fails, ids_fail, part_fails, all_pass}
 use Rattle.seq.proofs.Every.{every_none, every_more}
 use Rattle.seq.proofs.Rising.{rising_start, rising_not, rising_more, rising_all}
-use Prim.Native.Nat.{◌-◌}
 use mathlib.Core.Path.{◌≡◌, sym, ◌∙◌}
 use native.Mathlib.Omega.{arith}
-use borrow.Author.Tests.{not-true, not-false}
 use Rattle.block.proofs.order_rule.Goals as goal
 
 pub start_of-requires : goal.start_of-requires

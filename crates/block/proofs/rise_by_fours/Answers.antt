@@ -1,9 +1,7 @@
 -- The ids up to the one at k rise.
 use Rattle.block.specs.Block.{id_at}
 use Rattle.seq.proofs.Rising.{known_first, known_four}
-use Prim.Native.Nat.{◌-◌}
 use native.Mathlib.Omega.{arith}
-use borrow.Author.Tests.{not-false}
 use Rattle.block.proofs.rise_by_fours.Goals as goal
 
 pub loop-k-init : goal.loop-k-init

@@ -28,7 +28,7 @@ returns-then-is_near c =
 pub returns-then-n-key : goal.returns-then-n-key
 returns-then-n-key c =
     let f : ℕ → ℕ = id_at c.args.w c.args.file.now c.args.at in
-    let small = id_small c.args.file.now (λ i. (c.shared_slice_known-1.given i).fits) c.requires.elements_inside.width c.args.at in
+    let small = id_small c.args.file.now (λ i. (c.type_inv.file i).fits) c.requires.elements_inside.width c.args.at in
     sym (position_none f c.args.key c.args.n (none_there f c.args.n c.args.key small c.if-n-key.true))
 
 pub narrow-requires-2 : goal.narrow-requires-2
