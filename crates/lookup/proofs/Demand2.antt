@@ -9,7 +9,6 @@ use native.Mathlib.Omega.{arith}
 use Rattle.refusal.specs.declared.Refusal.{Refusal}
 use Rattle.refusal.specs.declared.Refusal.TheVariants as No
 use Rattle.refusal.specs.declared.Check.{Check}
-use Rattle.refusal.specs.declared.Check.TheVariants as Check
 use Rattle.refusal.specs.Number.{number_of}
 use Rattle.refusal.specs.Check.{if_passed}
 use Rattle.refusal.proofs.Checks.{if_passed_answers}
@@ -25,7 +24,6 @@ use Rattle.array.proofs.Bounds.{is_there, not_there, on_element_answers}
 use Rattle.block.specs.declared.Shape.{Shape}
 use Rattle.block.specs.declared.Block.{Block}
 use Rattle.block.specs.declared.Lookup.{Lookup}
-use Rattle.block.specs.declared.Lookup.TheVariants as Lookup
 use Rattle.block.specs.Block.{profile_shape, cct_shape, block_at, block_check, lookup_in}
 use Rattle.block.specs.Facts.{WellFormed, Holds}
 use Rattle.block.proofs.Facts.{well_formed_iff, 7-or-11, lookup_answers, found_iff, absent_iff}

@@ -12,7 +12,6 @@ use Rattle.open.specs.Format as Format
 use Rattle.open.specs.Opening.{pairs}
 use Rattle.array.specs.declared.Array.{Array}
 use Rattle.array.specs.declared.Element.{Element}
-use Rattle.array.specs.declared.Element.TheVariants as Element
 use Rattle.array.specs.Element.{element_at}
 use Rattle.block.specs.declared.Shape.{Shape}
 use Rattle.block.specs.declared.Block.{Block}
@@ -20,7 +19,7 @@ use Rattle.outside.specs.Outside.{apart, apart_all, lies}
 use Rattle.block.specs.Block.{profile_shape, cct_shape, range_rule, block_check}
 use Rattle.block.specs.Sound.{SoundBlock}
 use Rattle.block.proofs.Ranges.{sound}
-use Rattle.lookup.specs.declared.Checked.TheVariants.{Valid, Refused}
+use Rattle.lookup.specs.declared.Checked.TheVariants.{Valid}
 use Rattle.lookup.specs.Lookup.{checked_block, checked_at, profile_block, cct_block}
 use Rattle.lookup.proofs.Demand2.{profile_there_iff, cct_there_iff}
 

@@ -10,7 +10,6 @@ use Rattle.array.specs.Stored.{array_of}
 use Rattle.block.specs.declared.Shape.{Shape}
 use Rattle.block.specs.declared.Block.{Block}
 use Rattle.block.specs.declared.Lookup.{Lookup}
-use Rattle.block.specs.declared.Lookup.TheVariants as Lookup
 use Rattle.block.specs.Block.{profile_shape, cct_shape, block_at, block_check, lookup_in}
 use Rattle.lookup.specs.declared.Checked.{Checked}
 use Rattle.lookup.specs.declared.Checked.TheVariants.{Valid, Refused}
