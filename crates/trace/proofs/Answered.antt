@@ -21,7 +21,6 @@ use Rattle.open.proofs.Given.{on_opened_answers}
 use Rattle.array.specs.Element.{on_element}
 use Rattle.array.proofs.Bounds.{is_there, on_element_answers, on_element_refuses}
 use Rattle.trace.specs.declared.Line.{Line}
-use Rattle.trace.specs.declared.Line.TheVariants as Line
 use Rattle.trace.specs.Trace.{line_rule, samples_of, line_check, line_of, line_in, line_at}
 use Rattle.trace.specs.Facts.{RangeKept, trace_headers, trace_header_at, HeaderThere, LineThere, LineFalls}
 use Rattle.trace.proofs.Facts.{times_rule, check_passes, check_7, check_11}

@@ -19,9 +19,7 @@ use Rattle.seq.specs.declared.Position.TheVariants.{At, Nowhere}
 use Rattle.seq.specs.Sequence.{last_up_to}
 use Rattle.seq.proofs.Search.{last_iff, last_nowhere_iff}
 use Rattle.trace.specs.declared.Line.{Line}
-use Rattle.trace.specs.declared.Line.TheVariants as Line
 use Rattle.trace.specs.declared.Sample.{Sample}
-use Rattle.trace.specs.declared.Sample.TheVariants as Sample
 use Rattle.trace.specs.Trace.{time_at, context_at, line_at, on_line, sample_of, sample_in, sample_at, sample_position, last_in, last_at}
 use Rattle.trace.specs.Facts.{LineThere, LineFalls, SampleThere, LastNotLater, AllLater, LineSays}
 use Rattle.trace.proofs.Answered.{refused_not_of, line_iff, line_not_opened, line_15_iff, line_7_if, line_11_iff}

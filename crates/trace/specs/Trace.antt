@@ -17,9 +17,7 @@ use Rattle.seq.specs.declared.Position.TheVariants.{At, Nowhere}
 use Rattle.seq.specs.Sequence.{rises, last_up_to}
 use Rattle.outside.specs.Outside.{lies}
 use Rattle.trace.specs.declared.Line.{Line}
-use Rattle.trace.specs.declared.Line.TheVariants as Line
 use Rattle.trace.specs.declared.Sample.{Sample}
-use Rattle.trace.specs.declared.Sample.TheVariants as Sample
 
 -- sample k of those at a place
 unfoldable pub time_at : List ℕ → (place k : ℕ) → ℕ

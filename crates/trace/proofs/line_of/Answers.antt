@@ -1,6 +1,5 @@
 -- By the range, then by the order.
 use Rattle.trace.proofs.Lines.{rule_forwards, rule_ends, range_broken, order_broken, rules_kept}
-use borrow.Author.Tests.{not-true, not-false}
 use mathlib.Core.Path.{sym, ◌∙◌}
 use native.Mathlib.Omega.{arith}
 use Rattle.trace.proofs.line_of.Goals as goal

@@ -1,9 +1,7 @@
 -- The timestamps up to the one at k are in order.
 use Rattle.trace.specs.Trace.{time_at}
 use Rattle.seq.proofs.Rising.{known_first, known_four}
-use Prim.Native.Nat.{◌-◌}
 use native.Mathlib.Omega.{arith}
-use borrow.Author.Tests.{not-false}
 use Rattle.trace.proofs.rise_by_fours.Goals as goal
 
 pub loop-k-init : goal.loop-k-init

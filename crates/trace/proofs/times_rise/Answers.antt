@@ -1,10 +1,10 @@
 -- The timestamps passed are in order, and the next is to be at least a gap above the last.
 use Rattle.trace.specs.Trace.{time_at}
 use Rattle.seq.proofs.Rising.{rises_none, rising_after, rising_not, rising_more, rising_all}
-use Prim.Native.Nat.{◌+◌, ◌-◌}
+use Prim.Native.Nat.{◌+◌}
 use mathlib.Core.Path.{sym, ◌∙◌}
 use native.Mathlib.Omega.{arith}
-use borrow.Author.Tests.{leb-true, leb-false, not-true, not-false}
+use borrow.Author.Tests.{leb-true, leb-false}
 use Rattle.trace.proofs.times_rise.Goals as goal
 
 pub returns-then-n-eq0 : goal.returns-then-n-eq0
