@@ -13,9 +13,7 @@ use Rattle.array.specs.declared.Array.{Array}
 use Rattle.array.specs.Element.{element_at, on_element}
 use Rattle.array.specs.Stored.{array_in}
 use Rattle.tuple.specs.declared.Tuple.{Tuple}
-use Rattle.tuple.specs.declared.Tuple.TheVariants as Tuple
 use Rattle.tuple.specs.declared.Identifier.{Identifier}
-use Rattle.tuple.specs.declared.Identifier.TheVariants as Identifier
 
 -- ---- a tuple, as the array of its identifications
 
