@@ -12,7 +12,6 @@ use Rattle.block.specs.declared.Block.{Block}
 use Rattle.block.specs.Block.{cct_shape, start_of, end_of, part_of, part_at, inner_ids, word_at, index_of}
 use Rattle.block.proofs.Facts.{index_is}
 use Rattle.lookup.specs.declared.Checked.{Checked}
-use Rattle.lookup.specs.declared.Checked.TheVariants as Checked
 use Rattle.lookup.specs.Lookup.{cct_block, on_checked}
 use Rattle.lookup.proofs.Demand2.{cct_there_iff}
 use Rattle.cct.specs.Totals.{part_totals, at_index, totals_in, cct_totals}
