@@ -8,7 +8,6 @@ use borrow.Author.Tests.{le-leb, lt-leb}
 use lib.ListN.{length, get_or, length-append}
 use Rattle.refusal.specs.declared.Refusal.TheVariants as No
 use Rattle.refusal.specs.declared.Check.{Check}
-use Rattle.refusal.specs.declared.Check.TheVariants as Check
 use Rattle.refusal.specs.Check.{rule, if_passed}
 use Rattle.buffer.specs.Over.{over}
 use Rattle.buffer.proofs.Laws.{over_none, over_append, length_over}

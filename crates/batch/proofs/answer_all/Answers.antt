@@ -13,10 +13,8 @@ find_all-requires c =
 
 pub returns-in-Valid : goal.returns-in-Valid
 unfolding batch_in on_checked
-returns-in-Valid c =
-    rw c.in-Valid.is (refl, c.find_all.ensures)
+returns-in-Valid c = record { value = rw c.in-Valid.is refl; answers_after = rw c.in-Valid.is c.find_all.ensures }
 
 pub returns-in-Refused : goal.returns-in-Refused
 unfolding batch_in on_checked
-returns-in-Refused c =
-    rw c.in-Refused.is (refl, refl)
+returns-in-Refused c = record { value = rw c.in-Refused.is refl; answers_after = rw c.in-Refused.is refl }

@@ -1,6 +1,5 @@
 -- The answers to the pairs passed are written.
 use Rattle.batch.proofs.Filling.{two_words, filling_start, filling_length, filling_more, filling_all}
-use Prim.Native.Nat.{◌-◌}
 use native.Mathlib.Omega.{arith}
 use Rattle.batch.proofs.find_all.Goals as goal
 

@@ -1,12 +1,12 @@
 -- The k entries from `start` on are of profile p's run, and their contexts are counted; the first that is of another profile ends it.
-use Prim.Native.Nat.{◌-◌}
-use mathlib.Core.Logic.{⊎_elim}
-use mathlib.Core.Path.{sym, ◌∙◌}
+use Prim.Native.Nat.{◌+◌, ◌<◌}
+use mathlib.Core.Path.{◌≡◌, sym, ◌∙◌}
 use native.Mathlib.Omega.{arith}
 use borrow.Author.Tests.{eqb-true, eqb-false}
 use Rattle.profile_lists.specs.Lists.{entries_in}
 use Rattle.profile_lists.proofs.Loops.{counting_none, counting_most, counting_leader, counting_other, counting_all}
 use Rattle.profile_lists.proofs.run_at.Goals as goal
+use Rattle.profile_lists.proofs.run_at.Goals.{then-leads_at, else-leads_at, then-loop-k-test+else-profile_of-p, else-loop-k-test}
 
 pub loop-k-init : goal.loop-k-init
 loop-k-init c =
@@ -23,11 +23,14 @@ overflow_add-contexts c =
 
 pub loop-k-preserved : goal.loop-k-preserved
 loop-k-preserved c =
-    let of-run = sym c.profile_of.ensures ∙ eqb-true _ _ c.if-profile_of-p.true in
+    let of-run = sym c.profile_of.ensures ∙ c.if-profile_of-p.true in
     let leads = sym c.leads_at.ensures in
-    ⊎_elim (λ w. rw w.1 (counting_leader c.loop-k.invariant c.requires.ascending c.loop-k-test.true of-run (leads ∙ w.0.taken)))
-    (λ w. rw w.1 (counting_other c.loop-k.invariant c.requires.ascending c.loop-k-test.true of-run (leads ∙ w.0.left)))
-    c.if-leads_at.branch
+    elim c.if-leads_at.branch [
+      then-leads_at w ↦
+          rw w.contexts-is (counting_leader c.loop-k.invariant c.requires.ascending c.loop-k-test.true of-run (leads ∙ w.if-leads_at.true))
+    | else-leads_at w ↦
+          rw w.contexts-is (counting_other c.loop-k.invariant c.requires.ascending c.loop-k-test.true of-run (leads ∙ w.if-leads_at.false))
+    ]
 
 pub overflow_add-result : goal.overflow_add-result
 overflow_add-result c =
@@ -35,6 +38,11 @@ overflow_add-result c =
 
 pub returns : goal.returns
 returns c =
-    let all = counting_all c.loop-k.invariant c.requires.ascending c.requires.start_value
-    (⊎_elim (λ w l q. eqb-false _ _ w.2.left (w.1.ensures ∙ q)) (λ w l q. omega (arith, w.left)) c.loop-k-test.branch) in
+    let es = entries_in c.args.entries.now in
+    let ended : c.args.start + c.loop-k.k < es.count → es.profile (c.args.start + c.loop-k.k) ≡ c.args.p → ⊥ =
+    elim c.loop-k-test.branch [
+      then-loop-k-test+else-profile_of-p w ↦ λ l q. w.if-profile_of-p.false (w.profile_of.ensures ∙ q)
+    | else-loop-k-test w ↦ λ l q. omega (arith, w.loop-k-test.false)
+    ] in
+    let all = counting_all c.loop-k.invariant c.requires.ascending c.requires.start_value ended in
     record { end = all.0; contexts = all.1 }
