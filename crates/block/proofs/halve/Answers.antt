@@ -39,7 +39,7 @@ overflow_add-low-in-loop-left c =
 
 pub loop-left-preserved : goal.loop-left-preserved
 loop-left-preserved c =
-    window_step c.requires.sorted c.loop-left.invariant c.loop-left-test.true (c.loop-left.false / 2) c.skipped-low.result refl (λ h. c.skipped-low.ensures.0 (rw c.id_at-id.ensures.value h))
+    window_step c.requires.sorted c.loop-left.invariant c.loop-left-test.true (c.loop-left.left / 2) c.skipped-low.result refl (λ h. c.skipped-low.ensures.0 (rw c.id_at-id.ensures.value h))
     (λ h. c.skipped-low.ensures.1 (rw c.id_at-id.ensures.value h))
 
 pub id_at-requires : goal.id_at-requires

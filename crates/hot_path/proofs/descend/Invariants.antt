@@ -12,7 +12,7 @@ use Rattle.hot_path.proofs.descend.Given as goal
 
 abbrev pub invariant-loop-n : goal.invariant-loop-n
 invariant-loop-n l = (length l.places ≡ length l.initial.places) × (l.n ≤ depth_limit)
-    × ((l : List Entry) (k : Children l.meta l) → Descending l.meta (λ id. lookup_in l.db profile_shape l.b id l.metric) l k l.at l.places l.n)
+    × ((so : List Entry) (k : Children l.meta so) → Descending l.meta (λ id. lookup_in l.db profile_shape l.b id l.metric) so k l.at l.places l.n)
 
 abbrev pub decreases-loop-n : goal.decreases-loop-n
 decreases-loop-n l = depth_limit - l.n

@@ -1,13 +1,8 @@
 -- Along the array: the lead among the contexts passed.
 use Prim.Native.Nat.{ℕ, ◌-◌, ◌<◌}
 use mathlib.Core.List.{[], ◌∷◌}
-use mathlib.Core.Logic.{⊎_elim}
 use mathlib.Core.Path.{◌≡◌, refl, sym, ◌∙◌}
 use native.Mathlib.Omega.{arith}
-use borrow.Author.Tests.{not-true, not-false}
-use types.Run.{OneOf}
-use denote.Enum.Declared.{tag_of}
-use Rattle.block.specs.contracts.Lookup.{the_type as lookup-type}
 use Rattle.block.specs.declared.Lookup.{Lookup}
 use Rattle.block.specs.declared.Lookup.TheVariants.{Found, Absent, Refused}
 use Rattle.hot_path.specs.HotPath.{candidate}
@@ -15,13 +10,14 @@ use Rattle.context.specs.Context.{children_end}
 use Rattle.hot_path.proofs.Seeking.{place_read, end_read, value_read}
 use Rattle.hot_path.proofs.Seeking.{seeking_start, seeking_fits, seeking_none, seeking_more, seeking_not, seeking_nowhere, seeking_at}
 use Rattle.hot_path.proofs.hottest_at.Goals as goal
+use Rattle.hot_path.proofs.hottest_at.Goals.{in-Found+else-not-is_finite, in_default}
 
--- an answer with another tag has no value
-no-candidate : (p : ℕ) (a : Lookup) → OneOf (1 ∷ 2 ∷ []) (tag_of lookup-type a) → candidate p a ≡ []
+-- an answer that is not found has no value
+no_candidate : (p : ℕ) (a : Lookup) → ((bits : ℕ) → a ≡ Found bits → ⊥) → candidate p a ≡ []
 unfolding candidate
-no-candidate p (Found bits) h = absurd (⊎_elim (λ g. omega (arith, g)) (λ g. omega (arith, g)) h)
-no-candidate p Absent h = refl
-no-candidate p (Refused r) h = refl
+no_candidate p (Found bits) h = absurd (h bits refl)
+no_candidate p Absent h = refl
+no_candidate p (Refused r) h = refl
 
 pub load_u64-bytes-requires : goal.load_u64-bytes-requires
 load_u64-bytes-requires c =
@@ -89,11 +85,14 @@ loop-p-preserved c =
     let e = value_read c.args.db.now c.args.b c.args.meta.now c.loop-p.p c.args.metric c.find_near-answer.ensures c.profile_shape-h.ensures c.load_u32-id.ensures in
     let below : c.loop-p.p < children_end c.args.meta.now c.args.at = omega (arith, c.loop-p.invariant.0, c.loop-p-test.true) in (
       c.loop-p.invariant.0,
-      rw c.extent-p.ensures (⊎_elim
-          (λ w. rw (w.6, w.5.ensures)
-          (seeking_more c.args.meta.now _ c.args.at c.loop-p.invariant.1 below _ (e ∙ w.1.given.1) (sym w.3.ensures ∙ not-false _ w.4.left)))
-          (λ w. rw w.1 (seeking_none c.args.meta.now _ c.args.at c.loop-p.invariant.1 below (rw e (no-candidate c.loop-p.p c.find_near-answer.result w.0.keys2))))
-          c.match-answer.branch),
+      rw c.extent-p.ensures (elim c.match-answer.branch [
+        | in-Found+else-not-is_finite w ↦ rw (w.lead-is, w.lead_with-lead.ensures)
+            (seeking_more c.args.meta.now _ c.args.at c.loop-p.invariant.1 below _ (e ∙ w.in-Found.is)
+            (sym w.is_finite.ensures ∙ w.if-not-is_finite.false))
+        | in_default w ↦ rw w.lead-is
+            (seeking_none c.args.meta.now _ c.args.at c.loop-p.invariant.1 below
+            (rw e (no_candidate c.loop-p.p c.find_near-answer.result w.in_default.not-Found)))
+      ]),
     )
 
 pub returns-then-lead : goal.returns-then-lead
