@@ -17,7 +17,6 @@ use Rattle.array.specs.Stored.{array_of}
 use Rattle.outside.specs.Outside.{apart, apart_all, lies}
 use Rattle.seq.specs.Sequence.{every, floor, rises, position, sum}
 use Rattle.block.specs.declared.Lookup.{Lookup}
-use Rattle.block.specs.declared.Lookup.TheVariants as Lookup
 use Rattle.block.specs.Block.{block_at, id_at, word_at, range_rule, start_of, end_of, part_of, part_at, order_rule, block_check, value_at, in_part, index_of, lookup_in}
 use Rattle.lookup.specs.Lookup.{checked_block, checked_at, on_checked, profile_block, profile_lookup}
 use Rattle.tuple.specs.declared.Identifier.TheVariants as Identification

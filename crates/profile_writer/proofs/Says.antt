@@ -15,7 +15,6 @@ use Rattle.le.proofs.Laws.{number_small}
 use Rattle.refusal.specs.declared.Refusal.{Refusal}
 use Rattle.refusal.specs.declared.Refusal.TheVariants as No
 use Rattle.refusal.specs.declared.Check.{Check}
-use Rattle.refusal.specs.declared.Check.TheVariants as Check
 use Rattle.refusal.specs.Number.{number_of}
 use Rattle.refusal.specs.Check.{if_passed}
 use Rattle.refusal.proofs.Checks.{Decides, if_passed_answers, if_passed_refuses}

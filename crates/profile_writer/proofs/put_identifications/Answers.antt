@@ -1,5 +1,4 @@
 -- Identification after identification; the first of tuple t is behind those of the tuples before it.
-use Prim.Native.Nat.{◌-◌}
 use mathlib.Core.Path.{◌≡◌, refl}
 use native.Mathlib.Omega.{arith}
 use Rattle.buffer.proofs.Laws.{length_over}

@@ -20,7 +20,7 @@ pub returns-then-held-eq0 : goal.returns-then-held-eq0
 unfolding zeros
 returns-then-held-eq0 c =
     let e = none-to-four c.args.held c.if-held-eq0.true in
-    rw (e, over_none) (refl, refl)
+    record { count = rw e refl; bytes = rw (e, over_none) refl }
 
 pub store_u16-requires : goal.store_u16-requires
 store_u16-requires c =
@@ -30,4 +30,4 @@ pub returns : goal.returns
 unfolding zeros bytes
 returns c =
     let e = two-to-four c.args.held c.if-held-eq0.false in
-    rw e (refl, c.store_u16.ensures)
+    record { count = rw e refl; bytes = rw e c.store_u16.ensures }

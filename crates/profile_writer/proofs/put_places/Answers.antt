@@ -1,5 +1,5 @@
 -- After t places the next one stands at at + t * 8, and is where tuple t will be.
-use Prim.Native.Nat.{ℕ, ◌-◌, ◌*◌}
+use Prim.Native.Nat.{ℕ, ◌*◌}
 use mathlib.Core.List.{List}
 use mathlib.Core.Path.{◌≡◌, refl}
 use native.Mathlib.Omega.{arith}
@@ -48,4 +48,4 @@ loop-t-preserved c =
 pub returns : goal.returns
 returns c =
     let ends : c.loop-t.t ≡ length c.args.tuples.now = omega arith in
-    rw (← ends) (c.loop-t.invariant.2, c.loop-t.invariant.3)
+    record { end = rw (← ends) c.loop-t.invariant.2; bytes = rw (← ends) c.loop-t.invariant.3 }

@@ -1,5 +1,5 @@
 -- Tuple after tuple, each as its size and its identifications; `first` counts those of the tuples before.
-use Prim.Native.Nat.{ℕ, ◌-◌}
+use Prim.Native.Nat.{ℕ}
 use mathlib.Core.Path.{◌≡◌, refl, ap, ◌∙◌}
 use native.Mathlib.Omega.{arith}
 use lib.ListN.{length}

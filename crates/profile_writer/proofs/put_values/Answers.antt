@@ -1,10 +1,8 @@
 -- A turn is taken for each entry of the run, and the loop ends where the run does.
-use Prim.Native.Nat.{ℕ, ◌+◌, ◌-◌, ◌*◌}
+use Prim.Native.Nat.{ℕ, ◌+◌, ◌*◌, ◌<◌}
 use mathlib.Core.List.{List}
-use mathlib.Core.Logic.{⊎_elim}
 use mathlib.Core.Path.{◌≡◌, refl, sym, ap, ◌∙◌}
 use native.Mathlib.Omega.{arith}
-use borrow.Author.Tests.{eqb-true, eqb-false}
 use lib.ListN.{length}
 use Rattle.layout.specs.Many.{many}
 use Rattle.buffer.proofs.Laws.{length_over}
@@ -15,6 +13,7 @@ use Rattle.profile_file.specs.Survey.{run_start, run_length}
 use Rattle.profile_file.proofs.Runs.{run_le, run_in, run_next, run_ends}
 use Rattle.profile_lists.specs.Lists.{entries_in}
 use Rattle.profile_writer.proofs.put_values.Goals as goal
+use Rattle.profile_writer.proofs.put_values.Goals.{then-loop-k-test+else-profile_of-p, else-loop-k-test}
 
 -- value k from an entry on
 abbrev value_of : (entries : List ℕ) (start k : ℕ) → List ℕ
@@ -64,7 +63,7 @@ overflow_add-at c =
 pub put_value-requires : goal.put_value-requires
 put_value-requires c =
     let e = entries_in c.args.entries.now in
-    let of-run : e.profile (c.args.start + c.loop-k.k) ≡ c.args.p = sym c.profile_of.ensures ∙ eqb-true _ _ c.if-profile_of-p.true in
+    let of-run : e.profile (c.args.start + c.loop-k.k) ≡ c.args.p = sym c.profile_of.ensures ∙ c.if-profile_of-p.true in
     let in-run = run_in e c.requires.ascending (c.args.p + 1) (c.args.start + c.loop-k.k) c.loop-k-test.true (omega arith) in
     omega (arith, in-run, c.requires.start_value, run_next e c.requires.ascending c.args.p, c.requires.p_in_bounds, c.loop-k.invariant.1)
 
@@ -80,7 +79,7 @@ pub loop-k-preserved : goal.loop-k-preserved
 unfolding value_element
 loop-k-preserved c =
     let e = entries_in c.args.entries.now in
-    let of-run : e.profile (c.args.start + c.loop-k.k) ≡ c.args.p = sym c.profile_of.ensures ∙ eqb-true _ _ c.if-profile_of-p.true in
+    let of-run : e.profile (c.args.start + c.loop-k.k) ≡ c.args.p = sym c.profile_of.ensures ∙ c.if-profile_of-p.true in
     let in-run = run_in e c.requires.ascending (c.args.p + 1) (c.args.start + c.loop-k.k) c.loop-k-test.true (omega arith) in
     let place : c.args.at + c.loop-k.k * 10 ≡ c.args.at + length (many (value_of c.args.entries.now c.args.start) c.loop-k.k) =
     ap (λ (z : ℕ). c.args.at + z) (sym (length_values 2 (λ j. e.metric (c.args.start + j)) (λ j. e.bits (c.args.start + j)) c.loop-k.k)) in (
@@ -97,9 +96,13 @@ overflow_add-result c =
 pub returns : goal.returns
 returns c =
     let e = entries_in c.args.entries.now in
+    let ended : c.args.start + c.loop-k.k < e.count → e.profile (c.args.start + c.loop-k.k) ≡ c.args.p → ⊥ =
+    elim c.loop-k-test.branch [
+      | then-loop-k-test+else-profile_of-p w ↦ λ l q. w.if-profile_of-p.false (w.profile_of.ensures ∙ q)
+      | else-loop-k-test w ↦ λ l q. omega (arith, w.loop-k-test.false)
+    ] in
     let ends : c.args.start + c.loop-k.k ≡ run_start e (c.args.p + 1) =
-    run_ends e c.requires.ascending c.args.p (c.args.start + c.loop-k.k) (omega (arith, c.requires.start_value)) c.loop-k.invariant.0
-    (⊎_elim (λ w l q. eqb-false _ _ w.2.left (w.1.ensures ∙ q)) (λ w l q. omega (arith, w.left)) c.loop-k-test.branch) in
+    run_ends e c.requires.ascending c.args.p (c.args.start + c.loop-k.k) (omega (arith, c.requires.start_value)) c.loop-k.invariant.0 ended in
     let n : c.loop-k.k ≡ run_length e c.args.p = omega (arith, ends, c.requires.start_value, run_next e c.requires.ascending c.args.p) in
     record {
       end = ends;

@@ -12,10 +12,10 @@ pub returns-in-Passed : goal.returns-in-Passed
 unfolding write_answer write_file if_passed
 returns-in-Passed c =
     let passed = sym c.check-check.ensures ∙ c.in-Passed.is in
-    rw (passed, c.put_file.ensures.end, c.put_file.ensures.bytes) (refl, refl)
+    record { answer = rw (passed, c.put_file.ensures.end) refl; bytes = rw (passed, c.put_file.ensures.bytes) refl }
 
 pub returns-in-Refused : goal.returns-in-Refused
 unfolding write_answer write_file if_passed
 returns-in-Refused c =
     let refused = sym c.check-check.ensures ∙ c.in-Refused.is in
-    rw refused (refl, refl)
+    record { answer = rw refused refl; bytes = rw refused refl }
