@@ -41,7 +41,7 @@ module _ (profile metric : ℕ) where
   entry_stands {file} {at} (x ∷ xs) h zero l = moved (at + 0 * 24) (omega arith) (left file at (entry_bytes profile metric x) (entries_of profile metric xs) h)
   entry_stands {file} {at} (x ∷ xs) h (suc k) l =
       moved (at + suc k * 24) (omega (arith, length_entry profile metric x))
-      (entry_stands xs (right file at (entry_bytes profile metric x) (entries_of profile metric xs) h) k (le_of_suc-le-suc l))
+      (entry_stands {at = at + length (entry_bytes profile metric x)} xs (right file at (entry_bytes profile metric x) (entries_of profile metric xs) h) k (le_of_suc-le-suc l))
 
   module _ (p-fits : profile < 2 ^ 32) (m-fits : metric < 2 ^ 16) (xs : List OffsetCount) (o-fit : All (λ x. x.offset < 2 ^ 32) xs) where
     abbrev bytes : List ℕ

@@ -16,7 +16,6 @@ use Rattle.le.proofs.Laws.{number_small}
 use Rattle.refusal.specs.declared.Refusal.{Refusal}
 use Rattle.refusal.specs.declared.Refusal.TheVariants as No
 use Rattle.refusal.specs.declared.Check.{Check}
-use Rattle.refusal.specs.declared.Check.TheVariants as Check
 use Rattle.refusal.specs.Number.{number_of}
 use Rattle.refusal.specs.Check.{rule, if_passed}
 use Rattle.refusal.proofs.Checks.{rule_decides, first_decides, if_passed_answers, if_passed_refuses, first_passes}

@@ -16,7 +16,6 @@ use Rattle.dcpi.specs.Samples.{sample_counts, non_zero}
 use Rattle.dcpi.specs.Check.{samples_check}
 use Rattle.dcpi.specs.Facts.{SamplesKept, HasCount}
 use Rattle.dcpi_entries.specs.declared.EntryCount.{EntryCount}
-use Rattle.dcpi_entries.specs.declared.EntryCount.TheVariants as EntryCount
 
 -- a chunk has a count for the offset that is not zero, and the bits are those of the float whose value is the count, exactly: "A count
 -- becomes a float without loss."

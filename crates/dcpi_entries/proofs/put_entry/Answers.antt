@@ -6,6 +6,6 @@ use Rattle.dcpi_entries.proofs.put_entry.Goals as goal
 
 pub returns : goal.returns
 returns c =
-    let small : c.args.series.metric < 2 ^ 16 = omega (arith, c.struct_known-1.given) in
+    let small : c.args.series.metric < 2 ^ 16 = omega arith in
     rw (c.store_u64-2.ensures, c.of_u32.ensures, c.store_u64.ensures, c.store_u32-2.ensures, c.store_u32.ensures)
     (over_entry c.args.series.profile c.args.series.metric small _ c.args.at _)
