@@ -19,8 +19,8 @@ PROVE = @mkdir -p target; : > target/make.log; $(1) > target/make.log 2>&1 & p=$
 
 run:
 	$(call NEEDS,rt)
-	$(call PROVE,rt check listing)
-	@target/bin/listing < crates/listing/stdin
+	@mkdir -p target
+	@cd crates/listing && { rt run < stdin 2> ../../target/make.log || { tail -n 20 ../../target/make.log >&2; exit 1; }; }
 
 test:
 	$(call NEEDS,rt gcc g++ cargo)
@@ -28,7 +28,9 @@ test:
 
 lib:
 	$(call NEEDS,rt)
-	$(call PROVE,rt staticlib hpcdb)
+	$(call PROVE,(cd crates/hpcdb && rt lib))
+	@mkdir -p $(dir $(LIB))
+	@cp crates/hpcdb/out/libhpcdb.a $(LIB)
 
 check: lib
 	$(call NEEDS,gcc g++ cargo)

@@ -1,5 +1,4 @@
 -- What is left to the first stop falls by sixteen as the place rises by sixteen.
-use Prim.Native.Nat.{◌-◌}
 use mathlib.Core.Path.{sym, ◌∙◌}
 use borrow.Author.Rules.{rules}
 use borrow.Author.Tests.{leb-true}

@@ -1,5 +1,4 @@
 -- The bytes passed and those before the first stop in the rest make up the answer.
-use Prim.Native.Nat.{◌-◌}
 use borrow.Author.Rules.{rules}
 use native.Mathlib.Omega.{arith}
 use Rattle.scan.proofs.Laws.{found_here, found_later, found_nowhere}
