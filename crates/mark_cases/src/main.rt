@@ -60,14 +60,10 @@ fn words(rt: &impl Print, name: &str, values: &[u64]) -> io::Result<()> {
 fn changed(bytes: &[u8]) -> usize
     ensures { result ≤ length bytes.now }
 {
-    let mut n = bytes.len();
-    while 0 < n {
-        if bytes[n - 1] != BYTE_BEFORE {
-            return n;
-        }
-        n -= 1;
+    match bytes.iter().rposition(|byte| *byte != BYTE_BEFORE) {
+        Some(last) => last + 1,
+        None => 0,
     }
-    n
 }
 
 // Two digits.
