@@ -36,5 +36,7 @@ returns c =
     let part = part-of c.requires.sound_block c.args.i _ _ c.requires.i_lt_count c.start_of-start.ensures c.end_of.ensures in
     record {
       value = rw (c.element-place.ensures.value, c.end_of.ensures, c.start_of-start.ensures);
-      sound_part = sound_part c.args.file.now c.args.h c.args.b _ _ _ c.element-place.ensures.value (c.requires.sound_block.inside (omega (arith, c.requires.i_lt_count))) part;
+      sound_part =
+          sound_part c.args.file.now c.args.h c.args.b _ _ _ c.element-place.ensures.value
+              (c.requires.sound_block.inside (omega (arith, c.requires.i_lt_count))) part;
     }

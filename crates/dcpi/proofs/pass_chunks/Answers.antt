@@ -66,15 +66,15 @@ chunk_sums-chunk-requires c =
 pub overflow_add-nonzero : goal.overflow_add-nonzero
 overflow_add-nonzero c =
     let next = more c.args.samples.now c.loop-p.invariant c.loop-p-test.true c.chunk_rule.ensures c.if-not-chunk_rule.false
-    c.packed_u32-offset.ensures c.packed_u32-size.ensures c.if-offset-least.false c.chunk_sums-chunk.ensures.nonzero c.chunk_sums-chunk.ensures.sum
-    c.chunk_sums-chunk.ensures.few c.chunk_sums-chunk.ensures.small in
+    c.packed_u32-offset.ensures c.packed_u32-size.ensures c.if-offset-least.false
+    c.chunk_sums-chunk.ensures.nonzero c.chunk_sums-chunk.ensures.sum c.chunk_sums-chunk.ensures.few c.chunk_sums-chunk.ensures.small in
     omega (arith, next.few, next.least_small)
 
 pub overflow_add-sum : goal.overflow_add-sum
 overflow_add-sum c =
     let next = more c.args.samples.now c.loop-p.invariant c.loop-p-test.true c.chunk_rule.ensures c.if-not-chunk_rule.false
-    c.packed_u32-offset.ensures c.packed_u32-size.ensures c.if-offset-least.false c.chunk_sums-chunk.ensures.nonzero c.chunk_sums-chunk.ensures.sum
-    c.chunk_sums-chunk.ensures.few c.chunk_sums-chunk.ensures.small in
+    c.packed_u32-offset.ensures c.packed_u32-size.ensures c.if-offset-least.false
+    c.chunk_sums-chunk.ensures.nonzero c.chunk_sums-chunk.ensures.sum c.chunk_sums-chunk.ensures.few c.chunk_sums-chunk.ensures.small in
     omega (arith, next.small, next.least_small)
 
 pub overflow_sub-least : goal.overflow_sub-least
@@ -89,15 +89,15 @@ overflow_mul-least c =
 pub overflow_add-least : goal.overflow_add-least
 overflow_add-least c =
     let next = more c.args.samples.now c.loop-p.invariant c.loop-p-test.true c.chunk_rule.ensures c.if-not-chunk_rule.false
-    c.packed_u32-offset.ensures c.packed_u32-size.ensures c.if-offset-least.false c.chunk_sums-chunk.ensures.nonzero c.chunk_sums-chunk.ensures.sum
-    c.chunk_sums-chunk.ensures.few c.chunk_sums-chunk.ensures.small in
+    c.packed_u32-offset.ensures c.packed_u32-size.ensures c.if-offset-least.false
+    c.chunk_sums-chunk.ensures.nonzero c.chunk_sums-chunk.ensures.sum c.chunk_sums-chunk.ensures.few c.chunk_sums-chunk.ensures.small in
     omega (arith, next.least_small)
 
 pub overflow_add-least-in-loop-p : goal.overflow_add-least-in-loop-p
 overflow_add-least-in-loop-p c =
     let next = more c.args.samples.now c.loop-p.invariant c.loop-p-test.true c.chunk_rule.ensures c.if-not-chunk_rule.false
-    c.packed_u32-offset.ensures c.packed_u32-size.ensures c.if-offset-least.false c.chunk_sums-chunk.ensures.nonzero c.chunk_sums-chunk.ensures.sum
-    c.chunk_sums-chunk.ensures.few c.chunk_sums-chunk.ensures.small in
+    c.packed_u32-offset.ensures c.packed_u32-size.ensures c.if-offset-least.false
+    c.chunk_sums-chunk.ensures.nonzero c.chunk_sums-chunk.ensures.sum c.chunk_sums-chunk.ensures.few c.chunk_sums-chunk.ensures.small in
     omega (arith, next.least_small)
 
 pub overflow_add-p-in-loop-p-2 : goal.overflow_add-p-in-loop-p-2
@@ -127,8 +127,8 @@ loop-p-smaller c =
 pub loop-p-preserved : goal.loop-p-preserved
 loop-p-preserved c =
     more c.args.samples.now c.loop-p.invariant c.loop-p-test.true c.chunk_rule.ensures c.if-not-chunk_rule.false
-    c.packed_u32-offset.ensures c.packed_u32-size.ensures c.if-offset-least.false c.chunk_sums-chunk.ensures.nonzero c.chunk_sums-chunk.ensures.sum
-    c.chunk_sums-chunk.ensures.few c.chunk_sums-chunk.ensures.small
+    c.packed_u32-offset.ensures c.packed_u32-size.ensures c.if-offset-least.false
+    c.chunk_sums-chunk.ensures.nonzero c.chunk_sums-chunk.ensures.sum c.chunk_sums-chunk.ensures.few c.chunk_sums-chunk.ensures.small
 
 pub returns : goal.returns
 returns c =

@@ -21,7 +21,8 @@ overflow_add-p-in-loop-p c =
 
 pub put_counts-next-requires : goal.put_counts-next-requires
 put_counts-next-requires c = record {
-  n_in_bounds = omega (arith, chunks_inside _ _ _ _ c.loop-p.invariant c.loop-p-test.true c.packed_u32-offset.ensures c.packed_u32-size.ensures);
+  n_in_bounds =
+      omega (arith, chunks_inside _ _ _ _ c.loop-p.invariant c.loop-p-test.true c.packed_u32-offset.ensures c.packed_u32-size.ensures);
   spacing_bound = chunks_reach _ _ _ _ c.loop-p.invariant c.loop-p-test.true c.packed_u32-offset.ensures c.packed_u32-size.ensures;
   n_bound =
       rw c.requires.count_value

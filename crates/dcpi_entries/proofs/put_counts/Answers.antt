@@ -37,7 +37,8 @@ pub overflow_add-place : goal.overflow_add-place
 overflow_add-place c = omega (arith, c.requires.n_in_bounds, (both-true c.loop-i.i c.args.n c.loop-i.next c.args.end c.loop-i-test.true).0)
 
 pub packed_u32-count-requires : goal.packed_u32-count-requires
-packed_u32-count-requires c = omega (arith, c.requires.n_in_bounds, (both-true c.loop-i.i c.args.n c.loop-i.next c.args.end c.loop-i-test.true).0)
+packed_u32-count-requires c =
+    omega (arith, c.requires.n_in_bounds, (both-true c.loop-i.i c.args.n c.loop-i.next c.args.end c.loop-i-test.true).0)
 
 pub overflow_mul-here : goal.overflow_mul-here
 overflow_mul-here c = omega (arith, c.requires.spacing_bound, (both-true c.loop-i.i c.args.n c.loop-i.next c.args.end c.loop-i-test.true).0)
@@ -46,7 +47,8 @@ pub overflow_add-here : goal.overflow_add-here
 overflow_add-here c = omega (arith, c.requires.spacing_bound, (both-true c.loop-i.i c.args.n c.loop-i.next c.args.end c.loop-i-test.true).0)
 
 pub overflow_cast-here : goal.overflow_cast-here
-overflow_cast-here c = omega (arith, c.requires.spacing_bound, (both-true c.loop-i.i c.args.n c.loop-i.next c.args.end c.loop-i-test.true).0)
+overflow_cast-here c =
+    omega (arith, c.requires.spacing_bound, (both-true c.loop-i.i c.args.n c.loop-i.next c.args.end c.loop-i-test.true).0)
 
 pub put_entry-requires : goal.put_entry-requires
 put_entry-requires c =
@@ -87,5 +89,7 @@ shape_of-entries c = c.loop-i.invariant.same_length
 
 pub returns : goal.returns
 returns c =
-    let all = putting_all _ _ _ _ _ _ _ _ _ c.loop-i.invariant c.requires.n_bound (one-false c.loop-i.i c.args.n c.loop-i.next c.args.end c.loop-i-test.false) in
+    let all =
+        putting_all _ _ _ _ _ _ _ _ _ c.loop-i.invariant c.requires.n_bound
+            (one-false c.loop-i.i c.args.n c.loop-i.next c.args.end c.loop-i-test.false) in
     record { next = all.0; bytes = all.1 }

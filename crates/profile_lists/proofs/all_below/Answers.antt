@@ -20,7 +20,8 @@ loop-k-init c =
 
 pub returns-then-words-k : goal.returns-then-words-k
 returns-then-words-k c =
-    sym (every_not (below c.args.words.now c.args.limit) (length c.args.words.now) c.loop-k.k c.loop-k-test.true (le-ltb _ _ c.if-words-k.true))
+    sym (every_not (below c.args.words.now c.args.limit) (length c.args.words.now) c.loop-k.k c.loop-k-test.true
+        (le-ltb _ _ c.if-words-k.true))
 
 pub loop-k-preserved : goal.loop-k-preserved
 loop-k-preserved c =

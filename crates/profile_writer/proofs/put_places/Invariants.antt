@@ -7,7 +7,8 @@ use Rattle.profile_writer.specs.Table.{place_of_tuple, places_of}
 use Rattle.profile_writer.proofs.put_places.Given as goal
 
 abbrev pub invariant-loop-t : goal.invariant-loop-t
-invariant-loop-t l = (l.t ≤ length l.tuples) × (length l.file ≡ length l.initial.file) × (l.place ≡ place_of_tuple l.tuples l.at l.t) × (l.file ≡ over l.initial.file l.at (places_of l.tuples l.at l.t))
+invariant-loop-t l = (l.t ≤ length l.tuples) × (length l.file ≡ length l.initial.file) × (l.place ≡ place_of_tuple l.tuples l.at l.t)
+    × (l.file ≡ over l.initial.file l.at (places_of l.tuples l.at l.t))
 
 abbrev pub decreases-loop-t : goal.decreases-loop-t
 decreases-loop-t l = length l.tuples - l.t

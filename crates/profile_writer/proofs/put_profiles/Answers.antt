@@ -19,11 +19,13 @@ module _ (profiles tuples identifiers entries out₀ : List ℕ) where
   abbrev survey : Survey
   survey = survey_of profiles tuples identifiers entries
 
-  blocks_at : {table blocks : ℕ} → table ≡ tuples_from survey → blocks ≡ table + tuples_size survey → blocks ≡ tuples_from survey + tuples_size survey
+  blocks_at : {table blocks : ℕ} → table ≡ tuples_from survey → blocks ≡ table + tuples_size survey → blocks ≡ tuples_from
+      survey + tuples_size survey
   blocks_at t b = omega arith
 
   -- with a profile that is left
-  module _ (kept : Ready survey (length out₀)) {out : List ℕ} {p start at : ℕ} (f : Growing survey out₀ out p start at) (l : p < length profiles) where
+  module _ (kept : Ready survey (length out₀)) {out : List ℕ} {p start at : ℕ} (f : Growing survey out₀ out p start at)
+      (l : p < length profiles) where
     room : at + length (block_bytes survey.entries p) + 8 ≤ length out₀
     room = block_room survey out₀ kept f l
 
@@ -64,7 +66,9 @@ put_block-run-requires c =
     record {
       ascending = kept.sorted;
       start_value = c.loop-p.invariant.start_is;
-      p_in_bounds = omega (arith, block_room s a.file.now kept c.loop-p.invariant c.loop-p-test.true, growing_length s a.file.now kept c.loop-p.invariant);
+      p_in_bounds =
+          omega (arith, block_room s a.file.now kept c.loop-p.invariant c.loop-p-test.true, growing_length s a.file.now kept
+              c.loop-p.invariant);
     }
 
 pub overflow_sub-held : goal.overflow_sub-held
