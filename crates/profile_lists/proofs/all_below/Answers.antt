@@ -1,5 +1,5 @@
 -- The words passed are all below the limit.
-use Prim.Native.Nat.{ℕ, ◌-◌}
+use Prim.Native.Nat.{ℕ}
 use mathlib.Core.Bool.{Bool}
 use mathlib.Core.List.{List}
 use mathlib.Core.Path.{◌≡◌, sym}
@@ -21,7 +21,7 @@ loop-k-init c =
 pub returns-then-words-k : goal.returns-then-words-k
 returns-then-words-k c =
     sym (every_not (below c.args.words.now c.args.limit) (length c.args.words.now) c.loop-k.k c.loop-k-test.true
-        (le-ltb _ _ c.if-words-k.true))
+    (le-ltb _ _ c.if-words-k.true))
 
 pub loop-k-preserved : goal.loop-k-preserved
 loop-k-preserved c =

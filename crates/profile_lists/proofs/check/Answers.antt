@@ -1,6 +1,5 @@
 -- Three stages: the lists but for the entries, the entries, and the sizes.
 use mathlib.Core.Path.{sym, ◌∙◌}
-use borrow.Author.Tests.{not-true, not-false}
 use lib.ListN.{length}
 use Rattle.refusal.proofs.Checks.{after_passed, after_refused}
 use Rattle.profile_file.specs.Check.{sizes_check}
@@ -11,12 +10,12 @@ use Rattle.profile_lists.proofs.check.Goals as goal
 pub returns-then-not-all_below-identifications : goal.returns-then-not-all_below-identifications
 returns-then-not-all_below-identifications c =
     lists_broken c.args.profiles.now c.args.tuples.now c.args.identifiers.now c.args.entries.now c.args.room c.all_below.ensures
-        c.claimed-identifications.ensures (c.if-not-all_below-identifications.true)
+    c.claimed-identifications.ensures (c.if-not-all_below-identifications.true)
 
 pub check_sizes-requires : goal.check_sizes-requires
 check_sizes-requires c =
     let sums = all_claimed c.args.profiles.now c.args.tuples.now c.args.identifiers.now c.args.entries.now c.args.room c.all_below.ensures
-        c.claimed-identifications.ensures (c.if-not-all_below-identifications.false) in
+    c.claimed-identifications.ensures (c.if-not-all_below-identifications.false) in
     let passed = sym c.check_entries-check.ensures ∙ c.in-Passed.is in
     record {
       ascending = passed_sorted (entries_in c.args.entries.now) (length c.args.profiles.now) passed;
@@ -27,14 +26,14 @@ check_sizes-requires c =
 pub returns-in-Passed : goal.returns-in-Passed
 returns-in-Passed c =
     let left = lists_kept c.args.profiles.now c.args.tuples.now c.args.identifiers.now c.args.entries.now c.args.room c.all_below.ensures
-        c.claimed-identifications.ensures (c.if-not-all_below-identifications.false) in
+    c.claimed-identifications.ensures (c.if-not-all_below-identifications.false) in
     let passed = sym c.check_entries-check.ensures ∙ c.in-Passed.is in
     after_passed passed c.check_sizes.ensures ∙ sym left
 
 pub returns-in-Refused : goal.returns-in-Refused
 returns-in-Refused c =
     let left = lists_kept c.args.profiles.now c.args.tuples.now c.args.identifiers.now c.args.entries.now c.args.room c.all_below.ensures
-        c.claimed-identifications.ensures (c.if-not-all_below-identifications.false) in
+    c.claimed-identifications.ensures (c.if-not-all_below-identifications.false) in
     let refused = sym c.check_entries-check.ensures ∙ c.in-Refused.is in
     after_refused (sizes_check (survey_of c.args.profiles.now c.args.tuples.now c.args.identifiers.now c.args.entries.now) c.args.room)
-        refused ∙ sym left
+    refused ∙ sym left

@@ -1,5 +1,4 @@
 -- The entries up to the one at k are listed, and each of them comes before the next.
-use Prim.Native.Nat.{◌-◌}
 use native.Mathlib.Omega.{arith}
 use Rattle.refusal.specs.Check.{rule, first}
 use Rattle.profile_lists.specs.Lists.{entries_in}

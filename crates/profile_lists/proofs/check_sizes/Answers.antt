@@ -1,6 +1,5 @@
 -- Two stages that refuse by 7, and then both rules that are left.
 use mathlib.Core.Path.{sym, ◌∙◌}
-use borrow.Author.Tests.{not-true, not-false}
 use Rattle.profile_file.specs.Check.{sizes_fit}
 use Rattle.profile_lists.specs.Lists.{survey_of}
 use Rattle.profile_lists.proofs.Stages.{many_profiles, large_tuples, sizes_left}

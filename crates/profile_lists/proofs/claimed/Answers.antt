@@ -1,5 +1,4 @@
 -- The total is what the tuples passed claim, and at most `most`.
-use Prim.Native.Nat.{◌-◌}
 use mathlib.Core.Path.{◌≡◌, sym}
 use native.Mathlib.Omega.{arith}
 use lib.ListN.{length}

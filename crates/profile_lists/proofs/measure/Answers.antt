@@ -1,6 +1,5 @@
 -- The blocks of the profiles passed are measured, and the next run starts at `start`.
 -- No sum wraps, as a block has no more bytes than its entries.
-use Prim.Native.Nat.{◌-◌}
 use mathlib.Core.Path.{◌≡◌}
 use native.Mathlib.Omega.{arith}
 use Rattle.profile_lists.specs.Lists.{entries_in}
@@ -21,37 +20,37 @@ run_at-run-requires c =
 pub overflow_sub-held : goal.overflow_sub-held
 overflow_sub-held c =
     let most =
-        turn_most c.loop-p.invariant c.requires.ascending c.loop-p-test.true c.run_at-run.ensures.end c.run_at-run.ensures.contexts in
+    turn_most c.loop-p.invariant c.requires.ascending c.loop-p-test.true c.run_at-run.ensures.end c.run_at-run.ensures.contexts in
     omega (arith, most.0, most.1)
 
 pub overflow_mul-bytes : goal.overflow_mul-bytes
 overflow_mul-bytes c =
     let most =
-        turn_most c.loop-p.invariant c.requires.ascending c.loop-p-test.true c.run_at-run.ensures.end c.run_at-run.ensures.contexts in
+    turn_most c.loop-p.invariant c.requires.ascending c.loop-p-test.true c.run_at-run.ensures.end c.run_at-run.ensures.contexts in
     omega (arith, most.0, most.1)
 
 pub overflow_add-bytes : goal.overflow_add-bytes
 overflow_add-bytes c =
     let most =
-        turn_most c.loop-p.invariant c.requires.ascending c.loop-p-test.true c.run_at-run.ensures.end c.run_at-run.ensures.contexts in
+    turn_most c.loop-p.invariant c.requires.ascending c.loop-p-test.true c.run_at-run.ensures.end c.run_at-run.ensures.contexts in
     omega (arith, most.0, most.1)
 
 pub overflow_add-bytes-in-loop-p : goal.overflow_add-bytes-in-loop-p
 overflow_add-bytes-in-loop-p c =
     let most =
-        turn_most c.loop-p.invariant c.requires.ascending c.loop-p-test.true c.run_at-run.ensures.end c.run_at-run.ensures.contexts in
+    turn_most c.loop-p.invariant c.requires.ascending c.loop-p-test.true c.run_at-run.ensures.end c.run_at-run.ensures.contexts in
     omega (arith, most.0, most.1)
 
 pub overflow_mul-bytes-in-loop-p-2 : goal.overflow_mul-bytes-in-loop-p-2
 overflow_mul-bytes-in-loop-p-2 c =
     let most =
-        turn_most c.loop-p.invariant c.requires.ascending c.loop-p-test.true c.run_at-run.ensures.end c.run_at-run.ensures.contexts in
+    turn_most c.loop-p.invariant c.requires.ascending c.loop-p-test.true c.run_at-run.ensures.end c.run_at-run.ensures.contexts in
     omega (arith, most.0, most.1)
 
 pub overflow_add-bytes-in-loop-p-2 : goal.overflow_add-bytes-in-loop-p-2
 overflow_add-bytes-in-loop-p-2 c =
     let most =
-        turn_most c.loop-p.invariant c.requires.ascending c.loop-p-test.true c.run_at-run.ensures.end c.run_at-run.ensures.contexts in
+    turn_most c.loop-p.invariant c.requires.ascending c.loop-p-test.true c.run_at-run.ensures.end c.run_at-run.ensures.contexts in
     omega (arith, most.0, most.1)
 
 pub loop-p-preserved : goal.loop-p-preserved

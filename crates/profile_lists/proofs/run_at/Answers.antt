@@ -2,7 +2,6 @@
 use Prim.Native.Nat.{◌+◌, ◌<◌}
 use mathlib.Core.Path.{◌≡◌, sym, ◌∙◌}
 use native.Mathlib.Omega.{arith}
-use borrow.Author.Tests.{eqb-true, eqb-false}
 use Rattle.profile_lists.specs.Lists.{entries_in}
 use Rattle.profile_lists.proofs.Loops.{counting_none, counting_most, counting_leader, counting_other, counting_all}
 use Rattle.profile_lists.proofs.run_at.Goals as goal
@@ -26,9 +25,9 @@ loop-k-preserved c =
     let of-run = sym c.profile_of.ensures ∙ c.if-profile_of-p.true in
     let leads = sym c.leads_at.ensures in
     elim c.if-leads_at.branch [
-      then-leads_at w ↦
+      | then-leads_at w ↦
           rw w.contexts-is (counting_leader c.loop-k.invariant c.requires.ascending c.loop-k-test.true of-run (leads ∙ w.if-leads_at.true))
-    | else-leads_at w ↦
+      | else-leads_at w ↦
           rw w.contexts-is (counting_other c.loop-k.invariant c.requires.ascending c.loop-k-test.true of-run (leads ∙ w.if-leads_at.false))
     ]
 
@@ -41,8 +40,8 @@ returns c =
     let es = entries_in c.args.entries.now in
     let ended : c.args.start + c.loop-k.k < es.count → es.profile (c.args.start + c.loop-k.k) ≡ c.args.p → ⊥ =
     elim c.loop-k-test.branch [
-      then-loop-k-test+else-profile_of-p w ↦ λ l q. w.if-profile_of-p.false (w.profile_of.ensures ∙ q)
-    | else-loop-k-test w ↦ λ l q. omega (arith, w.loop-k-test.false)
+      | then-loop-k-test+else-profile_of-p w ↦ λ l q. w.if-profile_of-p.false (w.profile_of.ensures ∙ q)
+      | else-loop-k-test w ↦ λ l q. omega (arith, w.loop-k-test.false)
     ] in
     let all = counting_all c.loop-k.invariant c.requires.ascending c.requires.start_value ended in
     record { end = all.0; contexts = all.1 }
