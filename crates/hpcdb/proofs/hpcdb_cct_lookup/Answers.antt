@@ -10,4 +10,7 @@ returns-then-out-lt8 c =
 
 pub returns : goal.returns
 returns c =
-    rw (← c.cct_lookup.ensures) (room c.args.out.now _ (omega (arith, c.if-out-lt8.false)) (c.put_value.ensures.value, c.put_value.ensures.out_after))
+    record {
+      value = rw (← c.cct_lookup.ensures) ((room c.args.out.now _ (omega (arith, c.if-out-lt8.false)) (c.put_value.ensures.value, c.put_value.ensures.out_after)).0);
+      out_after = rw (← c.cct_lookup.ensures) ((room c.args.out.now _ (omega (arith, c.if-out-lt8.false)) (c.put_value.ensures.value, c.put_value.ensures.out_after)).1);
+    }

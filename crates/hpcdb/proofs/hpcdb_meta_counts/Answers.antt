@@ -17,4 +17,5 @@ returns-then-refusal-ne0 c =
 
 pub returns : goal.returns
 returns c =
-    rw c.counts-counts.ensures.value (answered c.args.out.now (counts_told c.args.file.now c.counts-counts.ensures.refusal_after c.if-refusal-ne0.false))
+    let all = answered c.args.out.now (counts_told c.args.file.now c.counts-counts.ensures.refusal_after c.if-refusal-ne0.false) in
+    record { value = all.0; out_after = rw c.counts-counts.ensures.value all.1 }

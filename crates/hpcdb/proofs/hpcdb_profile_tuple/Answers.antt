@@ -3,4 +3,4 @@ use Rattle.hpcdb.proofs.hpcdb_profile_tuple.Goals as goal
 
 pub returns : goal.returns
 returns c =
-    rw (← c.tuple_at.ensures) (c.put_tuple.ensures.value, c.put_tuple.ensures.out_after)
+    record { value = rw (← c.tuple_at.ensures) c.put_tuple.ensures.value; out_after = rw (← c.tuple_at.ensures) c.put_tuple.ensures.out_after }

@@ -3,4 +3,4 @@ use Rattle.hpcdb.proofs.hpcdb_trace_sample.Goals as goal
 
 pub returns : goal.returns
 returns c =
-    rw (← c.sample_at.ensures) (c.put_sample.ensures.value, c.put_sample.ensures.out_after)
+    record { value = rw (← c.sample_at.ensures) c.put_sample.ensures.value; out_after = rw (← c.sample_at.ensures) c.put_sample.ensures.out_after }

@@ -8,14 +8,16 @@ use Rattle.hpcdb.proofs.put_value.Goals as goal
 pub returns-in-Found : goal.returns-in-Found
 unfolding lookup_words code_in value_in
 returns-in-Found c =
-    rw c.in-Found.is (refl, c.store_u64.ensures)
+    record { value = rw c.in-Found.is refl; out_after = rw c.in-Found.is c.store_u64.ensures }
+
 
 pub returns-in-Absent : goal.returns-in-Absent
 unfolding lookup_words code_in value_in
 returns-in-Absent c =
-    rw c.in-Absent.is (refl, refl)
+    record { value = rw c.in-Absent.is refl; out_after = rw c.in-Absent.is refl }
+
 
 pub returns-in-Refused : goal.returns-in-Refused
 unfolding lookup_words code_in value_in
 returns-in-Refused c =
-    rw c.in-Refused.is (c.code.ensures, refl)
+    record { value = rw c.in-Refused.is c.code.ensures; out_after = rw c.in-Refused.is refl }

@@ -3,7 +3,6 @@ use Rattle.open.proofs.Stages.{too_short, long_enough}
 use Rattle.refusal.specs.declared.Refusal.TheVariants as No
 use Rattle.refusal.proofs.Checks.{rule_passes, rule_broken, after_passed, after_refused}
 use mathlib.Core.Path.{sym, ◌∙◌}
-use borrow.Author.Tests.{not-true, not-false}
 use Rattle.open.proofs.head.Goals as goal
 
 pub returns-then-file-header : goal.returns-then-file-header

@@ -4,7 +4,6 @@ use Rattle.refusal.specs.declared.Refusal.TheVariants as No
 use Rattle.refusal.proofs.Checks.{rule_passes, rule_broken, after_passed, after_refused}
 use mathlib.Core.Bool.{and-true}
 use native.Mathlib.Nat.{add-zero}
-use borrow.Author.Tests.{not-true, not-false}
 use Rattle.open.proofs.infos_header.Goals as goal
 
 pub returns-then-not-stride_rule : goal.returns-then-not-stride_rule

@@ -1,5 +1,4 @@
 -- Word after word.
-use Prim.Native.Nat.{◌-◌}
 use native.Mathlib.Omega.{arith}
 use Rattle.buffer.proofs.Storing.{storing_none, storing_more, storing_all}
 use Rattle.put.proofs.text.Goals as goal

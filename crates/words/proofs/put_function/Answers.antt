@@ -7,7 +7,8 @@ use Rattle.words.proofs.put_function.Goals as goal
 pub returns-in-Found : goal.returns-in-Found
 unfolding function_words
 returns-in-Found c =
-    rw c.bit.ensures (answered _ (ap function_words c.in-Found.is))
+    let all = answered _ (ap function_words c.in-Found.is) in
+    record { value = all.0; out_after = rw c.bit.ensures all.1 }
 
 pub returns-in-Refused : goal.returns-in-Refused
 unfolding function_words
