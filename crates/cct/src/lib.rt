@@ -31,7 +31,8 @@ fn part_totals(file: &[u8], h: Shape, p: Part) -> Totals
             return Totals::Refused(Refusal::NotFinite);
         }
         let x = f64::from_bits(bits);
-        if high < x {
+        let above = high < x;
+        if above {
             t = total::raise(t, block::id_at(file, p.place, h.inner, p.length, k), bits);
             high = x;
         } else if x < low {

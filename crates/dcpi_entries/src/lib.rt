@@ -62,7 +62,8 @@ fn put_counts(
         let count = le::packed_u32(samples, place + i * 4);
         let here = offset + i as u64 * SPACING;
         put_entry(entries, next, series, here as u32, count);
-        if count != 0 {
+        let listed = count != 0;
+        if listed {
             next += 24;
         }
         i += 1;

@@ -6,7 +6,7 @@ use Rattle.float.proofs.Sums.{finite_bits}
 use mathlib.Core.Path.{sym, ◌∙◌, ap}
 use Rattle.cct.specs.Totals.{part_totals}
 use Rattle.cct.proofs.part_totals.Goals as goal
-use Rattle.cct.proofs.part_totals.Goals.{then-high-x, else-high-x+then-x-low, else-high-x+else-x-low}
+use Rattle.cct.proofs.part_totals.Goals.{then-above, else-above+then-x-low, else-above+else-x-low}
 
 pub word_at-first-requires : goal.word_at-first-requires
 word_at-first-requires c =
@@ -60,8 +60,8 @@ pub float_from_bits-x : goal.float_from_bits-x
 float_from_bits-x c =
     finite_bits _ (finite_told _ c.is_finite-in-loop-k.ensures (ap not c.if-not-is_finite-2.false))
 
-pub id_at-requires-then-high-x : goal.id_at-requires-then-high-x
-id_at-requires-then-high-x c =
+pub id_at-requires-then-above : goal.id_at-requires-then-above
+id_at-requires-then-above c =
     record {
       elements_inside = c.requires.elements;
       k_lt_n = c.loop-k-test.true;
@@ -70,7 +70,7 @@ id_at-requires-then-high-x c =
 pub raise-t-requires : goal.raise-t-requires
 raise-t-requires c =
     let fin = finite_told _ c.is_finite-in-loop-k.ensures (ap not c.if-not-is_finite-2.false) in
-    let told = above c.loop-k.invariant c.word_at-bits.result fin c.if-high-x.true in
+    let told = above c.loop-k.invariant c.word_at-bits.result fin c.if-above.true in
     record { bits_value = fin; good = c.loop-k.invariant.good; bits_value_2 = told.0; least_value = told.1 }
 
 pub id_at-requires-then-x-low : goal.id_at-requires-then-x-low
@@ -83,13 +83,13 @@ id_at-requires-then-x-low c =
 pub lower-t-requires : goal.lower-t-requires
 lower-t-requires c =
     let fin = finite_told _ c.is_finite-in-loop-k.ensures (ap not c.if-not-is_finite-2.false) in
-    let told = not_above c.loop-k.invariant c.word_at-bits.result fin c.if-high-x.false c.if-x-low.true in
+    let told = not_above c.loop-k.invariant c.word_at-bits.result fin c.if-above.false c.if-x-low.true in
     record { bits_value = fin; good = c.loop-k.invariant.good; bits_value_2 = told.0; least_value = told.1 }
 
 pub add-t-requires : goal.add-t-requires
 add-t-requires c =
     let fin = finite_told _ c.is_finite-in-loop-k.ensures (ap not c.if-not-is_finite-2.false) in
-    let told = not_above c.loop-k.invariant c.word_at-bits.result fin c.if-high-x.false c.if-x-low.false in
+    let told = not_above c.loop-k.invariant c.word_at-bits.result fin c.if-above.false c.if-x-low.false in
     record { bits_value = fin; good = c.loop-k.invariant.good; bits_value_2 = told.0; least_value = told.1 }
 
 pub loop-k-preserved : goal.loop-k-preserved
@@ -99,16 +99,16 @@ loop-k-preserved c =
     let v = c.word_at-bits.result in
     let more = c.loop-k-test.true in
     let read = c.word_at-bits.ensures in
-    elim c.if-high-x.branch [
-      | then-high-x w ↦
+    elim c.if-above.branch [
+      | then-above w ↦
           rw (w.t-is, w.low-is, w.high-is, w.raise-t.ensures.value)
-          (summing_raise inv v fin more read w.id_at-then-high-x.ensures.value w.if-high-x.true)
-      | else-high-x+then-x-low w ↦
+          (summing_raise inv v fin more read w.id_at-then-above.ensures.value w.if-above.true)
+      | else-above+then-x-low w ↦
           rw (w.t-is, w.low-is, w.high-is, w.lower-t.ensures.value)
-          (summing_lower inv v fin more read w.id_at-then-x-low.ensures.value w.if-high-x.false w.if-x-low.true)
-      | else-high-x+else-x-low w ↦
+          (summing_lower inv v fin more read w.id_at-then-x-low.ensures.value w.if-above.false w.if-x-low.true)
+      | else-above+else-x-low w ↦
           rw (w.t-is, w.low-is, w.high-is)
-          (summing_add inv v fin more read w.add-t.ensures.by_index w.if-high-x.false w.if-x-low.false)
+          (summing_add inv v fin more read w.add-t.ensures.by_index w.if-above.false w.if-x-low.false)
     ]
 
 pub finish-requires : goal.finish-requires

@@ -9,7 +9,7 @@ use lib.Dec.{ltb}
 use Rattle.range.proofs.Tests.{both}
 use Rattle.dcpi_entries.proofs.Putting.{putting_none, putting_skip, putting_room, putting_more, putting_all}
 use Rattle.dcpi_entries.proofs.put_counts.Goals as goal
-use Rattle.dcpi_entries.proofs.put_counts.Goals.{then-count-ne0, else-count-ne0}
+use Rattle.dcpi_entries.proofs.put_counts.Goals.{then-listed, else-listed}
 
 -- either test ends the loop
 one-false : (a b x y : ℕ) → (ltb a b && ltb x y) ≡ false → (b ≤ a) ⊎ (y ≤ x)
@@ -73,15 +73,15 @@ loop-i-preserved c =
     let on = both-true c.loop-i.i c.args.n c.loop-i.next c.args.end c.loop-i-test.true in
     let load = c.packed_u32-count.ensures in
     let put = c.put_entry.ensures in
-    elim c.if-count-ne0.branch [
-      | then-count-ne0 w ↦
+    elim c.if-listed.branch [
+      | then-listed w ↦
           rw w.next-is
           (putting_more _ _ _ _ _ _ _ _ _ c.loop-i.invariant on.0 on.1 c.requires.n_bound c.requires.at_value load put
-          (λ q. omega (arith, w.if-count-ne0.true)))
-      | else-count-ne0 w ↦
+          (λ q. omega (arith, w.if-listed.true)))
+      | else-listed w ↦
           rw w.next-is
           (putting_skip _ _ _ _ _ _ _ _ _ c.loop-i.invariant on.0 on.1 c.requires.n_bound c.requires.at_value load put
-          (omega (arith, w.if-count-ne0.false)))
+          (omega (arith, w.if-listed.false)))
     ]
 
 pub shape_of-entries : goal.shape_of-entries
