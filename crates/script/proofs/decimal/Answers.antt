@@ -1,6 +1,5 @@
 -- The digits passed and those still to come write the number.
 use Rattle.script.proofs.Digits.{digit_more, digits_end}
-use Prim.Native.Nat.{◌-◌}
 use mathlib.Core.Path.{sym, ◌∙◌}
 use Rattle.script.proofs.decimal.Goals as goal
 
