@@ -23,11 +23,9 @@ use Rattle.open.proofs.Answer.{read_all}
 use Rattle.block.specs.declared.Block.{Block}
 use Rattle.block.specs.declared.Lookup.TheVariants as Lookup
 use Rattle.lookup.specs.declared.Checked.{Checked}
-use Rattle.lookup.specs.declared.Checked.TheVariants as Checked
 use Rattle.lookup.specs.Lookup.{profile_block, profile_lookup, on_checked}
 use Rattle.context.specs.Entry.{Entry}
 use Rattle.traversal.specs.declared.Walked.{Walked}
-use Rattle.traversal.specs.declared.Walked.TheVariants as Walked
 use Rattle.traversal.specs.Traversal.{Outcome, on, cut, refused, depth_limit, traversal}
 use Rattle.traversal.specs.Walk as Walk
 use Rattle.traversal.specs.Walk.{walk_of, walked_of, Leaves}

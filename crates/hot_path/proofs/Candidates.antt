@@ -16,7 +16,6 @@ use Rattle.seq.specs.Lists.{In}
 use Rattle.seq.proofs.Lists.{same_or_before, in_none, in_nth}
 use Rattle.float.specs.Float.{finite, less}
 use Rattle.total.specs.declared.Totals.{Totals}
-use Rattle.total.specs.declared.Totals.TheVariants as Totals
 use Rattle.total.specs.Totals.{totals_of}
 use Rattle.total.specs.Facts.{First, more}
 use Rattle.total.proofs.Facts.{only_16, absent_iff, refused_16, totalled}
@@ -26,7 +25,6 @@ use Rattle.context.specs.Entry.{Entry}
 use Rattle.traversal.specs.Children.{children_of}
 use Rattle.traversal.specs.Walk.{place_of}
 use Rattle.hot_path.specs.declared.Hottest.{Hottest}
-use Rattle.hot_path.specs.declared.Hottest.TheVariants as Hottest
 use Rattle.hot_path.specs.HotPath.{Candidate, candidate, candidates, places_of, bits_of, hottest_in, hottest_of, hottest_below}
 use Rattle.hot_path.specs.Facts.{ValuedChild, HottestChild, NoneValued, SomeNotFinite}
 

@@ -17,7 +17,6 @@ use Rattle.traversal.specs.Walk.{place_of}
 use Rattle.traversal.specs.Children.{children_of, StandAt, roots_header, Children}
 use Rattle.traversal.proofs.ChildArrays.{every_child}
 use Rattle.hot_path.specs.declared.Hottest.{Hottest}
-use Rattle.hot_path.specs.declared.Hottest.TheVariants as Hottest
 use Rattle.hot_path.specs.declared.HotPath.TheVariants as HotPath
 use Rattle.hot_path.specs.HotPath.{candidates, hottest_of, hottest_below, Descent, along, stopped, with_place, follow, descent_from}
 use Rattle.hot_path.specs.State.{candidates_at, descent_in}

@@ -13,7 +13,6 @@ use Rattle.buffer.specs.Over.{over}
 use Rattle.buffer.proofs.Laws.{drop_over}
 use Rattle.block.specs.declared.Block.{Block}
 use Rattle.lookup.specs.declared.Checked.{Checked}
-use Rattle.lookup.specs.declared.Checked.TheVariants as Checked
 use Rattle.lookup.specs.Lookup.{profile_block, on_checked}
 use Rattle.lookup.proofs.Demand2.{profile_there_iff}
 use Rattle.context.specs.Entry.{Entry}

@@ -15,7 +15,6 @@ use Rattle.float.specs.Float.{finite}
 use Rattle.block.specs.declared.Shape.{Shape}
 use Rattle.block.specs.declared.Block.{Block}
 use Rattle.block.specs.declared.Lookup.{Lookup}
-use Rattle.block.specs.declared.Lookup.TheVariants as Lookup
 use Rattle.block.specs.Block.{profile_shape, lookup_in}
 use Rattle.open.specs.Opening.{field}
 use Rattle.context.specs.Context.{children_bytes, children_place, ctx_id, extent, children_end}

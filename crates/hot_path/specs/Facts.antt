@@ -7,14 +7,12 @@ use Rattle.float.specs.Float.{finite, less}
 use Rattle.open.specs.Format as Format
 use Rattle.block.specs.declared.Block.{Block}
 use Rattle.block.specs.declared.Lookup.{Lookup}
-use Rattle.block.specs.declared.Lookup.TheVariants as Lookup
 use Rattle.block.specs.Block.{profile_shape}
 use Rattle.lookup.specs.declared.Checked.TheVariants as Checked
 use Rattle.lookup.specs.Demand2.{There}
 use Rattle.lookup.specs.Lookup.{profile_block}
 use Rattle.context.specs.Entry.{Entry}
 use Rattle.traversal.specs.declared.Walked.{Walked}
-use Rattle.traversal.specs.declared.Walked.TheVariants as Walked
 use Rattle.traversal.specs.Traversal.{on, depth_limit, traversal}
 use Rattle.traversal.specs.Walk.{walk_of, walked_of}
 use Rattle.hot_path.specs.declared.HotPath.{HotPath}

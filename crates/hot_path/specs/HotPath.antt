@@ -7,10 +7,8 @@ use Rattle.refusal.specs.Check.{either}
 use Rattle.refusal.specs.Words.{refused_words, code_in}
 use Rattle.buffer.specs.Over.{over}
 use Rattle.total.specs.declared.Totals.{Totals}
-use Rattle.total.specs.declared.Totals.TheVariants as Totals
 use Rattle.total.specs.Totals.{totals_of}
 use Rattle.block.specs.declared.Lookup.{Lookup}
-use Rattle.block.specs.declared.Lookup.TheVariants as Lookup
 use Rattle.lookup.specs.Lookup.{profile_block, profile_lookup, on_checked}
 use Rattle.context.specs.Entry.{Entry}
 use Rattle.traversal.specs.Traversal.{Asked, Outcome, on, cut, refused, depth_limit}
@@ -18,9 +16,7 @@ use Rattle.traversal.specs.Children.{children_of}
 use Rattle.traversal.specs.Walk as Walk
 use Rattle.traversal.specs.Walk.{walk_of, walked_of, place_of, ask_with, unmarked, Leaves}
 use Rattle.hot_path.specs.declared.Hottest.{Hottest}
-use Rattle.hot_path.specs.declared.Hottest.TheVariants as Hottest
 use Rattle.hot_path.specs.declared.HotPath.{HotPath}
-use Rattle.hot_path.specs.declared.HotPath.TheVariants as HotPath
 
 -- ---- the hottest of some contexts
 

@@ -16,16 +16,13 @@ use Rattle.layout.specs.Octets.{Octets}
 use Rattle.profile_file.specs.Survey.{Ascending, HasEntry}
 use Rattle.profile_lists.specs.Lists.{entries_in}
 use Rattle.dcpi.specs.declared.SampleCount.{SampleCount}
-use Rattle.dcpi.specs.declared.SampleCount.TheVariants as SampleCount
 use Rattle.dcpi.specs.declared.SampleTotals.{SampleTotals}
-use Rattle.dcpi.specs.declared.SampleTotals.TheVariants as SampleTotals
 use Rattle.dcpi.specs.Samples.{sample_counts, non_zero, sum_of}
 use Rattle.dcpi.specs.Check.{samples_check}
 use Rattle.dcpi.specs.Answers.{sample_lookup, sample_totals, sample_count_words, sample_totals_words}
 use Rattle.dcpi.specs.Facts.{SamplesKept, HasCount}
 use Rattle.dcpi.proofs.Says.{samples_say}
 use Rattle.dcpi_entries.specs.declared.EntryCount.{EntryCount}
-use Rattle.dcpi_entries.specs.declared.EntryCount.TheVariants as EntryCount
 use Rattle.dcpi_entries.specs.Entries.{list_answer, list_entries, entry_count_words}
 use Rattle.dcpi_entries.specs.Facts.{CountedAs, first_entries, EntriesSay}
 use Rattle.dcpi_entries.proofs.Says.{entries_say}

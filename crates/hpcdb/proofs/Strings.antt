@@ -41,7 +41,6 @@ use Rattle.function.specs.Facts.{p_name, FunctionThere, name_string}
 use Rattle.function.proofs.Says.{function_says, found_named, found_unnamed}
 use Rattle.block.specs.declared.Shape.{Shape}
 use Rattle.block.specs.declared.Lookup.{Lookup}
-use Rattle.block.specs.declared.Lookup.TheVariants as Lookup
 use Rattle.block.specs.Block.{profile_shape, cct_shape, lookup_words}
 use Rattle.lookup.specs.declared.Checked.{Checked}
 use Rattle.lookup.specs.declared.Checked.TheVariants as checked

@@ -12,9 +12,7 @@ use Rattle.refusal.specs.Number.{number_of}
 use Rattle.refusal.specs.Words.{code_in}
 use Rattle.refusal.proofs.Numbers.{positive, small, same_number}
 use Rattle.trace.specs.declared.Line.{Line}
-use Rattle.trace.specs.declared.Line.TheVariants as Line
 use Rattle.trace.specs.declared.Sample.{Sample}
-use Rattle.trace.specs.declared.Sample.TheVariants as Sample
 use Rattle.trace.specs.Trace.{line_at, sample_at, last_at, line_words, sample_words, last_words}
 use Rattle.trace.specs.Facts.{LineThere, LineFalls, SampleThere, LastNotLater, AllLater}
 use Rattle.trace.proofs.Says.{line_says}

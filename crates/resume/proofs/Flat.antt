@@ -12,7 +12,6 @@ use lib.ListN.{length, get_or, set, length-append, length-set}
 use Rattle.refusal.specs.declared.Refusal.{Refusal}
 use Rattle.refusal.specs.declared.Refusal.TheVariants as No
 use Rattle.refusal.specs.declared.Check.{Check}
-use Rattle.refusal.specs.declared.Check.TheVariants as Check
 use Rattle.refusal.specs.Check.{either, rule, first, if_passed}
 use Rattle.open.specs.Opening.{field}
 use Rattle.context.specs.Context.{Targets, children_place, children_bytes, ctx_id, extent, sibling_place, children_end, context_rule}

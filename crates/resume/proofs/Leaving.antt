@@ -11,7 +11,6 @@ use lib.ListN.{length, replicate}
 use Rattle.refusal.specs.declared.Refusal.{Refusal}
 use Rattle.refusal.specs.declared.Refusal.TheVariants as No
 use Rattle.refusal.specs.declared.Check.{Check}
-use Rattle.refusal.specs.declared.Check.TheVariants as Check
 use Rattle.refusal.specs.Check.{either, rule, first, if_passed}
 use Rattle.buffer.specs.Over.{over}
 use Rattle.layout.specs.Octets.{Octets}

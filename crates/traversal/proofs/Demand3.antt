@@ -12,7 +12,6 @@ use lib.Seq.{take_at, drop_at}
 use Rattle.seq.proofs.Lists.{in_at}
 use Rattle.refusal.specs.declared.Refusal.{Refusal}
 use Rattle.refusal.specs.declared.Check.{Check}
-use Rattle.refusal.specs.declared.Check.TheVariants as Check
 use Rattle.refusal.specs.Check.{either, if_passed}
 use Rattle.buffer.proofs.Laws.{over_eq}
 use Rattle.context.specs.Entry.{Entry, entry_words, words_each}

@@ -12,7 +12,6 @@ use lib.ListN.{length, take, drop, get_or, length-append}
 use Rattle.refusal.specs.declared.Refusal.{Refusal}
 use Rattle.refusal.specs.declared.Refusal.TheVariants as No
 use Rattle.refusal.specs.declared.Check.{Check}
-use Rattle.refusal.specs.declared.Check.TheVariants as Check
 use Rattle.refusal.specs.Check.{either, rule, first, if_passed}
 use Rattle.refusal.specs.Number.{number_of}
 use Rattle.buffer.specs.Over.{over}

@@ -7,7 +7,6 @@ use native.Mathlib.Omega.{arith}
 use lib.ListN.{length, get_or, take, drop, length-append}
 use lib.Seq.{get_or-take, get_or-drop, take_at}
 use Rattle.refusal.specs.declared.Check.{Check}
-use Rattle.refusal.specs.declared.Check.TheVariants as Check
 use Rattle.refusal.specs.Check.{if_passed}
 use Rattle.seq.specs.Lists.{In}
 use Rattle.seq.proofs.Lists.{in_none, in_take, in_drop, distinct_one}

@@ -5,7 +5,6 @@ use mathlib.Core.List.{List, [], ◌++◌}
 use mathlib.Core.Path.{◌≡◌, refl, sym, ap, ◌∙◌}
 use lib.ListN.{length, take}
 use Rattle.refusal.specs.declared.Check.{Check}
-use Rattle.refusal.specs.declared.Check.TheVariants as Check
 use Rattle.refusal.specs.Check.{either, rule, first, if_passed}
 use Rattle.refusal.proofs.Checks.{first_passed}
 use Rattle.open.specs.Format.{meta}

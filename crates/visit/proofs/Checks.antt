@@ -10,7 +10,6 @@ use lib.ListN.{length, get_or}
 use Rattle.le.specs.Number.{number}
 use Rattle.refusal.specs.declared.Refusal.TheVariants as No
 use Rattle.refusal.specs.declared.Check.{Check}
-use Rattle.refusal.specs.declared.Check.TheVariants as Check
 use Rattle.refusal.specs.Check.{rule, first}
 use Rattle.refusal.proofs.Checks.{rule_passes, first_passes}
 use Rattle.open.specs.Opening.{field}

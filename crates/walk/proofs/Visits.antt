@@ -8,7 +8,6 @@ use borrow.Author.Tests.{lt-ltb, le-ltb}
 use lib.ListN.{length, set}
 use Rattle.refusal.specs.declared.Refusal.{Refusal}
 use Rattle.refusal.specs.declared.Check.{Check}
-use Rattle.refusal.specs.declared.Check.TheVariants as Check
 use Rattle.open.specs.Opening.{field}
 use Rattle.context.specs.Context.{Targets, children_place, children_bytes, ctx_id, context_rule}
 use Rattle.context.specs.Entry.{Entry, entry_at}

@@ -1,7 +1,6 @@
 -- The loop keeps `Flat`: by whether the array is done, and how the visit of the next context is answered. Twice the free slots of the table
 -- and the depth fall.
 use Prim.Native.Nat.{ℕ, ◌+◌, ◌*◌}
-use mathlib.Core.List.{List}
 use Rattle.context.specs.Sound.{targets_in}
 use Rattle.mark.specs.Mark.{decode, path_in}
 use Rattle.traversal.specs.Traversal.{Marks}

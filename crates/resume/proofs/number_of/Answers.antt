@@ -1,5 +1,4 @@
 -- A turn passes one context of the array, until the place is reached.
-use Prim.Native.Nat.{◌-◌}
 use native.Mathlib.Omega.{arith}
 use Rattle.context.proofs.Siblings.{takes_some}
 use Rattle.resume.proofs.Counting.{extent_most, numbered_start, numbered_small, numbered_more, numbered_end}

@@ -1,5 +1,5 @@
 -- Behind the head a turn writes the number of one level, and then reads where the array on the next starts.
-use Prim.Native.Nat.{◌+◌, ◌<◌}
+use Prim.Native.Nat.{◌+◌}
 use mathlib.Core.Path.{◌∙◌}
 use native.Mathlib.Omega.{arith}
 use lib.ListN.{get_or}

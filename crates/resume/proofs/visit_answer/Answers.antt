@@ -1,7 +1,7 @@
 -- The checks in their order, and then whether there is room.
 use mathlib.Core.Path.{sym, ◌∙◌}
 use native.Mathlib.Omega.{arith}
-use borrow.Author.Tests.{not-true, not-false, le-leb, lt-leb}
+use borrow.Author.Tests.{le-leb, lt-leb}
 use Rattle.refusal.specs.Check.{either, rule, first, if_passed}
 use Rattle.context.proofs.Laws.{readable}
 use Rattle.resume.specs.State.{visit_answer}

@@ -1,6 +1,5 @@
 -- The checks, put for their definitions, in their order.
 use mathlib.Core.Path.{sym, ◌∙◌}
-use borrow.Author.Tests.{not-true, not-false}
 use Rattle.refusal.specs.Check.{rule, first}
 use Rattle.open.specs.Opening.{field}
 use Rattle.visit.specs.Visit.{checks_after10}

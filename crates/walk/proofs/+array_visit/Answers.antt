@@ -15,7 +15,6 @@ use Rattle.walk.proofs.Going.{going_start, going_10, going_end, going_next, goin
 use Rattle.visit.proofs.Checks.{id_read, place_read, bytes_read, safe}
 use Rattle.walk.proofs.Visits.{does_refused, does_cut, does_leaf, does_deep}
 use Rattle.walk.proofs.Measure.{falls_in, falls_down}
-use borrow.Fn.PlainCycle.{falls}
 use Rattle.walk.proofs.+array_visit.Goals as goal
 
 pub array-loop-p-init : goal.array-loop-p-init
