@@ -21,7 +21,7 @@ put_answer-requires c =
 pub loop-k-preserved : goal.loop-k-preserved
 loop-k-preserved c =
     filling_more c.args.file.now c.args.h c.args.b c.args.asked.now c.loop-k.invariant c.loop-k-test.true c.find_near-answer.ensures
-        c.put_answer.ensures
+    c.put_answer.ensures
 
 pub shape_of-answers : goal.shape_of-answers
 shape_of-answers c =

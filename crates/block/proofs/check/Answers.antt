@@ -15,10 +15,10 @@ returns-then-not-range_rule c =
 pub order_rule-requires : goal.order_rule-requires
 order_rule-requires c =
     arrays_inside c.args.file.now c.args.h _ c.args.b (sym c.range_rule.ensures ∙ c.if-not-range_rule.false) c.requires
-        (omega (arith, c.if-b-eq0.false))
+    (omega (arith, c.if-b-eq0.false))
 
 pub returns : goal.returns
 returns c =
     c.rule-2.ensures ∙
     (rw (← c.order_rule.ensures) at
-        (order_check c.args.file.now c.args.h _ c.args.b c.if-b-eq0.false (sym c.range_rule.ensures ∙ c.if-not-range_rule.false)))
+    (order_check c.args.file.now c.args.h _ c.args.b c.if-b-eq0.false (sym c.range_rule.ensures ∙ c.if-not-range_rule.false)))

@@ -11,13 +11,21 @@ overflow_add-result c =
 
 pub overflow_mul-result : goal.overflow_mul-result
 overflow_mul-result c =
-    omega (arith, small c.requires.elements_inside.width, element_ends c.args.k c.args.n (c.args.w + 8) c.requires.k_lt_n,
-        c.requires.elements_inside.ends)
+    omega (
+      arith,
+      small c.requires.elements_inside.width,
+      element_ends c.args.k c.args.n (c.args.w + 8) c.requires.k_lt_n,
+      c.requires.elements_inside.ends,
+    )
 
 pub overflow_add-result-2 : goal.overflow_add-result-2
 overflow_add-result-2 c =
-    omega (arith, small c.requires.elements_inside.width, element_ends c.args.k c.args.n (c.args.w + 8) c.requires.k_lt_n,
-        c.requires.elements_inside.ends)
+    omega (
+      arith,
+      small c.requires.elements_inside.width,
+      element_ends c.args.k c.args.n (c.args.w + 8) c.requires.k_lt_n,
+      c.requires.elements_inside.ends,
+    )
 
 pub returns : goal.returns
 returns c =

@@ -10,4 +10,4 @@ pub returns : goal.returns
 returns c e least h =
     four_tested least 1 (id_at c.args.w c.args.file.now c.args.at) ltb (λ a b t. omega (arith, ltb-true a b t)) c.args.k
     c.id_at-before.ensures.value c.id_at-one.ensures.value c.id_at-two.ensures.value c.id_at-three.ensures.value
-        c.id_at-four.ensures.value e h
+    c.id_at-four.ensures.value e h

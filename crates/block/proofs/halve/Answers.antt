@@ -40,7 +40,7 @@ overflow_add-low-in-loop-left c =
 pub loop-left-preserved : goal.loop-left-preserved
 loop-left-preserved c =
     window_step c.requires.sorted c.loop-left.invariant c.loop-left-test.true (c.loop-left.left / 2) c.skipped-low.result refl
-        (λ h. c.skipped-low.ensures.0 (rw c.id_at-id.ensures.value h))
+    (λ h. c.skipped-low.ensures.0 (rw c.id_at-id.ensures.value h))
     (λ h. c.skipped-low.ensures.1 (rw c.id_at-id.ensures.value h))
 
 pub id_at-requires : goal.id_at-requires
@@ -54,7 +54,7 @@ pub returns-then-id_at-key : goal.returns-then-id_at-key
 returns-then-id_at-key c =
     sym
     (position_at (id_at c.args.w c.args.file.now c.args.at) c.args.key c.args.n c.requires.sorted c.loop-left.low
-        (omega (arith, c.loop-left.invariant.fits, c.loop-left.invariant.some))
+    (omega (arith, c.loop-left.invariant.fits, c.loop-left.invariant.some))
     (sym c.id_at.ensures.value ∙ c.if-id_at-key.true))
 
 pub returns-else-id_at-key : goal.returns-else-id_at-key

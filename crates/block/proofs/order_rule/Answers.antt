@@ -37,7 +37,7 @@ id_at-id-requires c =
 pub returns-then-id-low : goal.returns-then-id-low
 returns-then-id-low c =
     ids_fail c.args.file.now c.args.h c.args.b
-        (rising_not c.loop-i.invariant.0 c.loop-i-test.true (rw c.id_at-id.ensures.value at c.if-id-low.true))
+    (rising_not c.loop-i.invariant.0 c.loop-i-test.true (rw c.id_at-id.ensures.value at c.if-id-low.true))
 
 pub end_of-end-requires : goal.end_of-end-requires
 end_of-end-requires c =
@@ -63,5 +63,5 @@ pub returns : goal.returns
 returns c =
     let e : c.loop-i.i ≡ c.args.b.count = omega (arith, c.loop-i.invariant.0.within) in
     all_pass c.args.file.now c.args.h c.args.b (sym c.start_of.ensures ∙ c.if-start_of-ne0.false)
-        (rising_all c.loop-i.invariant.0 c.loop-i-test.false)
+    (rising_all c.loop-i.invariant.0 c.loop-i-test.false)
     (rw e at c.loop-i.invariant.1)

@@ -38,5 +38,5 @@ returns c =
       value = rw (c.element-place.ensures.value, c.end_of.ensures, c.start_of-start.ensures);
       sound_part =
           sound_part c.args.file.now c.args.h c.args.b _ _ _ c.element-place.ensures.value
-              (c.requires.sound_block.inside (omega (arith, c.requires.i_lt_count))) part;
+          (c.requires.sound_block.inside (omega (arith, c.requires.i_lt_count))) part;
     }

@@ -16,7 +16,7 @@ pub ids_rise-requires : goal.ids_rise-requires
 ids_rise-requires c =
     rw c.element-at.ensures.value
     (part_inside c.args.file.now c.args.b.values c.args.h.inner c.args.b.total c.args.start c.args.end c.requires.values
-        (omega (arith, c.if-end-start.false))
+    (omega (arith, c.if-end-start.false))
     (omega (arith, c.if-b-end.false)))
 
 pub returns : goal.returns

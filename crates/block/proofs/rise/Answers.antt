@@ -14,7 +14,7 @@ pub returns-then-id_at-least : goal.returns-then-id_at-least
 returns-then-id_at-least c =
     let first = rw c.id_at.ensures.value at c.if-id_at-least.true in
     sym (rising_not (rising_start c.args.least 1 (id_at c.args.w c.args.file.now c.args.at) c.args.n) (omega (arith, c.if-n-eq0.false))
-        first)
+    first)
 
 pub rise_by_fours-k-requires : goal.rise_by_fours-k-requires
 rise_by_fours-k-requires c =
@@ -43,14 +43,16 @@ id_at-requires-in-loop-k-2 c =
 pub returns-then-id_at : goal.returns-then-id_at
 returns-then-id_at c =
     sym (rising_not c.loop-k.invariant.1 c.loop-k-test.true
-        (omega (arith, c.if-id_at.true, c.id_at-in-loop-k.ensures.value, c.id_at-in-loop-k-2.ensures.value)))
+    (omega (arith, c.if-id_at.true, c.id_at-in-loop-k.ensures.value, c.id_at-in-loop-k-2.ensures.value)))
 
 pub loop-k-preserved : goal.loop-k-preserved
 loop-k-preserved c =
-    let e : c.loop-k.k + 1 - 1 ≡ c.loop-k.k = omega arith in
-    (omega arith, rw e
-        (rising_more c.loop-k.invariant.1 c.loop-k-test.true
-            (omega (arith, c.if-id_at.false, c.id_at-in-loop-k.ensures.value, c.id_at-in-loop-k-2.ensures.value))))
+    let e : c.loop-k.k + 1 - 1 ≡ c.loop-k.k = omega arith in (
+      omega arith,
+      rw e
+          (rising_more c.loop-k.invariant.1 c.loop-k-test.true
+          (omega (arith, c.if-id_at.false, c.id_at-in-loop-k.ensures.value, c.id_at-in-loop-k-2.ensures.value))),
+    )
 
 pub returns : goal.returns
 returns c =

@@ -11,13 +11,13 @@ use Rattle.count.proofs.profiles.Goals as goal
 pub elements-requires : goal.elements-requires
 elements-requires c =
     header_there Format.profile _ c.profile_sections-sections.ensures c.check_profile-check.ensures c.in-Passed.is Section.infos
-        (omega arith)
+    (omega arith)
 
 pub returns-in-Passed : goal.returns-in-Passed
 unfolding count_of
 returns-in-Passed c =
     rw c.elements.ensures
-        (answers Format.profile _ c.profile_sections-sections.ensures c.check_profile-check.ensures Refused _ c.in-Passed.is)
+    (answers Format.profile _ c.profile_sections-sections.ensures c.check_profile-check.ensures Refused _ c.in-Passed.is)
 
 pub returns-in-Refused : goal.returns-in-Refused
 unfolding count_of

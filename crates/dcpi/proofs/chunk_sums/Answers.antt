@@ -45,7 +45,7 @@ loop-i-preserved c =
       | then-count-eq0 w ↦
           rw w.zeros-is
           (summed_zero _ _ _ c.loop-i.invariant c.loop-i-test.true c.packed_u32-count.result e m (omega arith)
-              (omega (arith, w.if-count-eq0.true)))
+          (omega (arith, w.if-count-eq0.true)))
       | else-count-eq0 w ↦
           rw w.zeros-is
           (summed_more _ _ _ c.loop-i.invariant c.loop-i-test.true c.packed_u32-count.result e m (omega arith)

@@ -90,6 +90,6 @@ shape_of-entries c = c.loop-i.invariant.same_length
 pub returns : goal.returns
 returns c =
     let all =
-        putting_all _ _ _ _ _ _ _ _ _ c.loop-i.invariant c.requires.n_bound
-            (one-false c.loop-i.i c.args.n c.loop-i.next c.args.end c.loop-i-test.false) in
+    putting_all _ _ _ _ _ _ _ _ _ c.loop-i.invariant c.requires.n_bound
+    (one-false c.loop-i.i c.args.n c.loop-i.next c.args.end c.loop-i-test.false) in
     record { next = all.0; bytes = all.1 }

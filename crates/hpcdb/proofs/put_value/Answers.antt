@@ -10,12 +10,10 @@ unfolding lookup_words code_in value_in
 returns-in-Found c =
     record { value = rw c.in-Found.is refl; out_after = rw c.in-Found.is c.store_u64.ensures }
 
-
 pub returns-in-Absent : goal.returns-in-Absent
 unfolding lookup_words code_in value_in
 returns-in-Absent c =
     record { value = rw c.in-Absent.is refl; out_after = rw c.in-Absent.is refl }
-
 
 pub returns-in-Refused : goal.returns-in-Refused
 unfolding lookup_words code_in value_in

@@ -80,7 +80,7 @@ put_tuples-requires c =
     let kept = ready a.profiles.now a.tuples.now a.identifiers.now a.entries.now (length a.file.now) c.requires in
     let size = length_tuples (tuples_in a.tuples.now a.identifiers.now) (length a.tuples.now) in
     let long-1 : length c.put_places-blocks.new.file ≡ length a.file.now = ap length c.put_places-blocks.ensures.bytes
-        ∙ length_over _ _ _ in
+    ∙ length_over _ _ _ in
     let long-2 : length c.put_profiles-end.new.file ≡ length c.put_places-blocks.new.file =
     ap length c.put_profiles-end.ensures.bytes ∙ length_over _ _ _ ∙ length_over _ _ _ in
     record {
@@ -98,7 +98,7 @@ put_header-requires c =
     let s = survey_of a.profiles.now a.tuples.now a.identifiers.now a.entries.now in
     let kept = ready a.profiles.now a.tuples.now a.identifiers.now a.entries.now (length a.file.now) c.requires in
     let long-1 : length c.put_places-blocks.new.file ≡ length a.file.now = ap length c.put_places-blocks.ensures.bytes
-        ∙ length_over _ _ _ in
+    ∙ length_over _ _ _ in
     let long-2 : length c.put_profiles-end.new.file ≡ length c.put_places-blocks.new.file =
     ap length c.put_profiles-end.ensures.bytes ∙ length_over _ _ _ ∙ length_over _ _ _ in
     let long-3 : length c.put_tuples.new.file ≡ length c.put_profiles-end.new.file = ap length c.put_tuples.ensures ∙ length_over _ _ _ in
@@ -113,7 +113,7 @@ put_infos_header-requires c =
     let s = survey_of a.profiles.now a.tuples.now a.identifiers.now a.entries.now in
     let kept = ready a.profiles.now a.tuples.now a.identifiers.now a.entries.now (length a.file.now) c.requires in
     let long-1 : length c.put_places-blocks.new.file ≡ length a.file.now = ap length c.put_places-blocks.ensures.bytes
-        ∙ length_over _ _ _ in
+    ∙ length_over _ _ _ in
     let long-2 : length c.put_profiles-end.new.file ≡ length c.put_places-blocks.new.file =
     ap length c.put_profiles-end.ensures.bytes ∙ length_over _ _ _ ∙ length_over _ _ _ in
     let long-3 : length c.put_tuples.new.file ≡ length c.put_profiles-end.new.file = ap length c.put_tuples.ensures ∙ length_over _ _ _ in
@@ -129,15 +129,15 @@ text-requires c =
     let s = survey_of a.profiles.now a.tuples.now a.identifiers.now a.entries.now in
     let kept = ready a.profiles.now a.tuples.now a.identifiers.now a.entries.now (length a.file.now) c.requires in
     let long-1 : length c.put_places-blocks.new.file ≡ length a.file.now = ap length c.put_places-blocks.ensures.bytes
-        ∙ length_over _ _ _ in
+    ∙ length_over _ _ _ in
     let long-2 : length c.put_profiles-end.new.file ≡ length c.put_places-blocks.new.file =
     ap length c.put_profiles-end.ensures.bytes ∙ length_over _ _ _ ∙ length_over _ _ _ in
     let long-3 : length c.put_tuples.new.file ≡ length c.put_profiles-end.new.file = ap length c.put_tuples.ensures ∙ length_over _ _ _ in
     let long-4 : length c.put_header.new.file ≡ length c.put_tuples.new.file = ap length c.put_header.ensures ∙ length_over _ _ _ in
     let long-5 : length c.put_infos_header.new.file ≡ length c.put_header.new.file = ap length c.put_infos_header.ensures
-        ∙ length_over _ _ _ in
+    ∙ length_over _ _ _ in
     let blocks = blocks_end a.profiles.now a.tuples.now a.identifiers.now a.entries.now c.put_places-blocks.ensures.end
-        c.put_profiles-end.ensures.end in
+    c.put_profiles-end.ensures.end in
     omega (arith, long-1, long-2, long-3, long-4, long-5, blocks, kept.has_room)
 
 pub overflow_add-result : goal.overflow_add-result
@@ -145,7 +145,7 @@ overflow_add-result c =
     let a = c.args in
     let kept = ready a.profiles.now a.tuples.now a.identifiers.now a.entries.now (length a.file.now) c.requires in
     let blocks = blocks_end a.profiles.now a.tuples.now a.identifiers.now a.entries.now c.put_places-blocks.ensures.end
-        c.put_profiles-end.ensures.end in
+    c.put_profiles-end.ensures.end in
     omega (arith, blocks, kept.has_room)
 
 pub returns : goal.returns

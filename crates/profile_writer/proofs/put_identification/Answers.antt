@@ -10,7 +10,7 @@ use Rattle.profile_writer.proofs.put_identification.Goals as goal
 pub returns : goal.returns
 returns c =
     let kind : number 1 c.args.identifiers.now c.args.from < 256 ^ 1 =
-        number_small c.args.identifiers.now (λ k. (c.type_inv.identifiers k).fits) 1 c.args.from in
+    number_small c.args.identifiers.now (λ k. (c.type_inv.identifiers k).fits) 1 c.args.from in
     let four : c.args.at + 2 + 2 ≡ c.args.at + 4 = omega arith in
     let eight : c.args.at + 4 + 4 ≡ c.args.at + 8 = omega arith in
     rw (

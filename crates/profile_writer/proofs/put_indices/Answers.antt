@@ -19,9 +19,13 @@ abbrev contexts : (entries : List ℕ) (start k : ℕ) → ℕ
 contexts entries start k = (entries_in entries).context (start + k)
 
 pub loop-k-init : goal.loop-k-init
-loop-k-init c =
-    (omega arith, sym (groups_none (contexts c.args.entries.now c.args.start)), refl, over_many_none
-        (index_element 4 (contexts c.args.entries.now c.args.start)) c.args.file.now c.args.at)
+loop-k-init c = (
+  omega arith,
+  sym (groups_none (contexts c.args.entries.now c.args.start)),
+  refl,
+  over_many_none
+      (index_element 4 (contexts c.args.entries.now c.args.start)) c.args.file.now c.args.at,
+)
 
 pub leads_at-requires : goal.leads_at-requires
 leads_at-requires c =
@@ -39,7 +43,7 @@ pub overflow_mul-count : goal.overflow_mul-count
 overflow_mul-count c =
     let O : ℕ → ℕ = contexts c.args.entries.now c.args.start in
     let one : groups O (c.loop-k.k + 1) ≡ groups O c.loop-k.k + 1 =
-        rw (add-one c.loop-k.k) (group_yes O c.loop-k.k (sym c.leads_at.ensures ∙ c.if-leads_at.true)) in
+    rw (add-one c.loop-k.k) (group_yes O c.loop-k.k (sym c.leads_at.ensures ∙ c.if-leads_at.true)) in
     let most = groups_le O (c.loop-k.k + 1) c.args.held (omega (arith, c.loop-k-test.true)) in
     omega (arith, one, most, c.requires.held_in_bounds, c.loop-k.invariant.1, c.loop-k.invariant.2)
 
@@ -47,7 +51,7 @@ pub overflow_add-at : goal.overflow_add-at
 overflow_add-at c =
     let O : ℕ → ℕ = contexts c.args.entries.now c.args.start in
     let one : groups O (c.loop-k.k + 1) ≡ groups O c.loop-k.k + 1 =
-        rw (add-one c.loop-k.k) (group_yes O c.loop-k.k (sym c.leads_at.ensures ∙ c.if-leads_at.true)) in
+    rw (add-one c.loop-k.k) (group_yes O c.loop-k.k (sym c.leads_at.ensures ∙ c.if-leads_at.true)) in
     let most = groups_le O (c.loop-k.k + 1) c.args.held (omega (arith, c.loop-k-test.true)) in
     omega (arith, one, most, c.requires.held_in_bounds, c.loop-k.invariant.1, c.loop-k.invariant.2)
 
@@ -55,7 +59,7 @@ pub put_index-requires : goal.put_index-requires
 put_index-requires c =
     let O : ℕ → ℕ = contexts c.args.entries.now c.args.start in
     let one : groups O (c.loop-k.k + 1) ≡ groups O c.loop-k.k + 1 =
-        rw (add-one c.loop-k.k) (group_yes O c.loop-k.k (sym c.leads_at.ensures ∙ c.if-leads_at.true)) in
+    rw (add-one c.loop-k.k) (group_yes O c.loop-k.k (sym c.leads_at.ensures ∙ c.if-leads_at.true)) in
     let most = groups_le O (c.loop-k.k + 1) c.args.held (omega (arith, c.loop-k-test.true)) in
     omega (arith, one, most, c.requires.held_in_bounds, c.loop-k.invariant.1, c.loop-k.invariant.2)
 
@@ -63,7 +67,7 @@ pub overflow_add-count : goal.overflow_add-count
 overflow_add-count c =
     let O : ℕ → ℕ = contexts c.args.entries.now c.args.start in
     let one : groups O (c.loop-k.k + 1) ≡ groups O c.loop-k.k + 1 =
-        rw (add-one c.loop-k.k) (group_yes O c.loop-k.k (sym c.leads_at.ensures ∙ c.if-leads_at.true)) in
+    rw (add-one c.loop-k.k) (group_yes O c.loop-k.k (sym c.leads_at.ensures ∙ c.if-leads_at.true)) in
     let most = groups_le O (c.loop-k.k + 1) c.args.held (omega (arith, c.loop-k-test.true)) in
     omega (arith, one, most, c.requires.held_in_bounds, c.loop-k.invariant.1, c.loop-k.invariant.2)
 
@@ -80,13 +84,13 @@ loop-k-preserved-then-leads_at c =
     let O : ℕ → ℕ = contexts c.args.entries.now c.args.start in
     let yes = sym c.leads_at.ensures ∙ c.if-leads_at.true in
     let place : c.args.at + c.loop-k.count * 12 ≡ c.args.at + length (many (index_element 4 O) c.loop-k.k) =
-        omega (arith, c.loop-k.invariant.1, length_indices 4 O c.loop-k.k) in (
+    omega (arith, c.loop-k.invariant.1, length_indices 4 O c.loop-k.k) in (
       omega (arith, c.loop-k-test.true),
       rw (add-one c.loop-k.k, group_yes O c.loop-k.k yes) (omega (arith, c.loop-k.invariant.1)),
       rw (c.put_index.ensures, length_over) c.loop-k.invariant.2,
       c.put_index.ensures
           ∙ rw (c.context_of-context.ensures, c.loop-k.invariant.3, place, ← index_yes 4 O c.loop-k.k yes)
-              (sym (over_many_more (index_element 4 O) c.args.file.now c.args.at c.loop-k.k)),
+          (sym (over_many_more (index_element 4 O) c.args.file.now c.args.at c.loop-k.k)),
     )
 
 pub overflow_add-k-else-leads_at : goal.overflow_add-k-else-leads_at

@@ -67,8 +67,12 @@ put_block-run-requires c =
       ascending = kept.sorted;
       start_value = c.loop-p.invariant.start_is;
       p_in_bounds =
-          omega (arith, block_room s a.file.now kept c.loop-p.invariant c.loop-p-test.true, growing_length s a.file.now kept
-              c.loop-p.invariant);
+          omega (
+            arith,
+            block_room s a.file.now kept c.loop-p.invariant c.loop-p-test.true,
+            growing_length s a.file.now kept
+                c.loop-p.invariant,
+          );
     }
 
 pub overflow_sub-held : goal.overflow_sub-held

@@ -85,4 +85,4 @@ pub returns : goal.returns
 returns c =
     let ends : c.loop-t.t ≡ length c.args.tuples.now = omega arith in
     c.loop-t.invariant.4
-        ∙ ap (λ (k : ℕ). over c.args.file.now c.args.at (many (tuple_bytes (tuples_in c.args.tuples.now c.args.identifiers.now)) k)) ends
+    ∙ ap (λ (k : ℕ). over c.args.file.now c.args.at (many (tuple_bytes (tuples_in c.args.tuples.now c.args.identifiers.now)) k)) ends

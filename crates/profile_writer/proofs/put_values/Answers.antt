@@ -21,9 +21,12 @@ value_of entries start = value_element 2 (λ j. (entries_in entries).metric (sta
 
 pub loop-k-init : goal.loop-k-init
 loop-k-init c =
-    let e = entries_in c.args.entries.now in
-    (omega (arith, c.requires.start_value, run_next e c.requires.ascending c.args.p), refl, over_many_none
-        (value_of c.args.entries.now c.args.start) c.args.file.now c.args.at)
+    let e = entries_in c.args.entries.now in (
+      omega (arith, c.requires.start_value, run_next e c.requires.ascending c.args.p),
+      refl,
+      over_many_none
+          (value_of c.args.entries.now c.args.start) c.args.file.now c.args.at,
+    )
 
 pub overflow_add-start : goal.overflow_add-start
 overflow_add-start c =
@@ -84,12 +87,12 @@ loop-k-preserved c =
     let in-run = run_in e c.requires.ascending (c.args.p + 1) (c.args.start + c.loop-k.k) c.loop-k-test.true (omega arith) in
     let place : c.args.at + c.loop-k.k * 10 ≡ c.args.at + length (many (value_of c.args.entries.now c.args.start) c.loop-k.k) =
     ap (λ (z : ℕ). c.args.at + z)
-        (sym (length_values 2 (λ j. e.metric (c.args.start + j)) (λ j. e.bits (c.args.start + j)) c.loop-k.k)) in (
+    (sym (length_values 2 (λ j. e.metric (c.args.start + j)) (λ j. e.bits (c.args.start + j)) c.loop-k.k)) in (
       omega (arith, in-run),
       rw (c.put_value.ensures, length_over) c.loop-k.invariant.1,
       c.put_value.ensures
           ∙ rw (c.metric_of-metric.ensures, c.bits_of-bits.ensures, c.loop-k.invariant.2, place)
-              (sym (over_many_more (value_of c.args.entries.now c.args.start) c.args.file.now c.args.at c.loop-k.k)),
+          (sym (over_many_more (value_of c.args.entries.now c.args.start) c.args.file.now c.args.at c.loop-k.k)),
     )
 
 pub overflow_add-result : goal.overflow_add-result
@@ -106,7 +109,7 @@ returns c =
     ] in
     let ends : c.args.start + c.loop-k.k ≡ run_start e (c.args.p + 1) =
     run_ends e c.requires.ascending c.args.p (c.args.start + c.loop-k.k) (omega (arith, c.requires.start_value)) c.loop-k.invariant.0
-        ended in
+    ended in
     let n : c.loop-k.k ≡ run_length e c.args.p = omega (arith, ends, c.requires.start_value, run_next e c.requires.ascending c.args.p) in
     record {
       end = ends;

@@ -47,7 +47,7 @@ pub store_visit-requires : goal.store_visit-requires
 store_visit-requires c =
     let flat = c.loop-here.invariant unmarked 0 in
     let goes =
-        flat_goes flat c.if-here.true c.visit_answer-goes.result c.in-Complete.field-0 c.visit_answer-goes.ensures c.in-Complete.is in
+    flat_goes flat c.if-here.true c.visit_answer-goes.result c.in-Complete.field-0 c.visit_answer-goes.ensures c.in-Complete.is in
     let sound = flat_sound flat c.if-here.true goes c.requires.at_nonzero.1 c.requires.at_nonzero.2 in
     record { p_in_bounds = sound.reads; ctx_id_in_bounds = (sound.slot, omega (arith, sound.deeper)) }
 
@@ -55,7 +55,7 @@ pub list_or_pass-so_far-requires : goal.list_or_pass-so_far-requires
 list_or_pass-so_far-requires c =
     let flat = c.loop-here.invariant unmarked 0 in
     let goes =
-        flat_goes flat c.if-here.true c.visit_answer-goes.result c.in-Complete.field-0 c.visit_answer-goes.ensures c.in-Complete.is in
+    flat_goes flat c.if-here.true c.visit_answer-goes.result c.in-Complete.field-0 c.visit_answer-goes.ensures c.in-Complete.is in
     let sound = flat_sound flat c.if-here.true goes c.requires.at_nonzero.1 c.requires.at_nonzero.2 in
     record {
       readable = (sound.can, omega (arith, sound.deeper));
@@ -68,7 +68,7 @@ pub on_from-here-requires : goal.on_from-here-requires
 on_from-here-requires c =
     let flat = c.loop-here.invariant unmarked 0 in
     let goes =
-        flat_goes flat c.if-here.true c.visit_answer-goes.result c.in-Complete.field-0 c.visit_answer-goes.ensures c.in-Complete.is in
+    flat_goes flat c.if-here.true c.visit_answer-goes.result c.in-Complete.field-0 c.visit_answer-goes.ensures c.in-Complete.is in
     let sound = flat_sound flat c.if-here.true goes c.requires.at_nonzero.1 c.requires.at_nonzero.2 in
     record { up_bound = omega (arith, sound.deeper); lies = sound.lies }
 
@@ -76,7 +76,7 @@ pub loop-here-smaller-then-here : goal.loop-here-smaller-then-here
 loop-here-smaller-then-here c =
     let flat = c.loop-here.invariant unmarked 0 in
     let goes =
-        flat_goes flat c.if-here.true c.visit_answer-goes.result c.in-Complete.field-0 c.visit_answer-goes.ensures c.in-Complete.is in
+    flat_goes flat c.if-here.true c.visit_answer-goes.result c.in-Complete.field-0 c.visit_answer-goes.ensures c.in-Complete.is in
     let sound = flat_sound flat c.if-here.true goes c.requires.at_nonzero.1 c.requires.at_nonzero.2 in
     let here = c.loop-here.here in
     let filled = fills c.loop-here.table (field c.args.file.now here.p ctx_id) here.p sound.slot sound.fresh flat.some in
@@ -87,7 +87,7 @@ pub loop-here-preserved-then-here : goal.loop-here-preserved-then-here
 loop-here-preserved-then-here c =
     let flat = c.loop-here.invariant unmarked 0 in
     let goes =
-        flat_goes flat c.if-here.true c.visit_answer-goes.result c.in-Complete.field-0 c.visit_answer-goes.ensures c.in-Complete.is in
+    flat_goes flat c.if-here.true c.visit_answer-goes.result c.in-Complete.field-0 c.visit_answer-goes.ensures c.in-Complete.is in
     let sound = flat_sound flat c.if-here.true goes c.requires.at_nonzero.1 c.requires.at_nonzero.2 in
     λ m b. rw (
       c.list_or_pass-so_far.ensures.value,

@@ -11,8 +11,16 @@ nth-requires c =
 pub returns-in-At : goal.returns-in-At
 unfolding line_in on_element
 returns-in-At c =
-    rw (c.line_of.ensures, c.u32_at-profile.ensures, c.u64_at-start.ensures, c.u64_at-end.ensures, add-zero, ← c.of_infos-headers.ensures,
-        ← c.nth.ensures, c.in-At.is)
+    rw (
+      c.line_of.ensures,
+      c.u32_at-profile.ensures,
+      c.u64_at-start.ensures,
+      c.u64_at-end.ensures,
+      add-zero,
+      ← c.of_infos-headers.ensures,
+      ← c.nth.ensures,
+      c.in-At.is,
+    )
 
 pub returns-in-Refused : goal.returns-in-Refused
 unfolding line_in on_element

@@ -10,4 +10,4 @@ returns-then-end-start c =
 pub returns : goal.returns
 returns c =
     rw (c.multiple.ensures, c.multiple-2.ensures, c.multiple-3.ensures, c.lies.ensures)
-        (rule_start c.args.file.now _ c.args.start c.args.end c.if-end-start.false)
+    (rule_start c.args.file.now _ c.args.start c.args.end c.if-end-start.false)

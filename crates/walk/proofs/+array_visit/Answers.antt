@@ -18,14 +18,13 @@ use Rattle.walk.proofs.Measure.{falls_in, falls_down}
 use Rattle.walk.proofs.+array_visit.Goals as goal
 
 pub array-loop-p-init : goal.array-loop-p-init
-array-loop-p-init t c =
-    (
-      omega arith,
-      refl,
-      refl,
-      refl,
-      λ was l ups d h. going_start c.args.file.now (targets_in c.args.targets.now) c.args.depth c.args.at c.args.stop was l c.args.parent ups _ _ h,
-    )
+array-loop-p-init t c = (
+  omega arith,
+  refl,
+  refl,
+  refl,
+  λ was l ups d h. going_start c.args.file.now (targets_in c.args.targets.now) c.args.depth c.args.at c.args.stop was l c.args.parent ups _ _ h,
+)
 
 pub array-context_rule-requires : goal.array-context_rule-requires
 array-context_rule-requires t c =
