@@ -22,8 +22,8 @@ use Rattle.traversal.specs.Children.{children_of, places_from, places_at, StandA
 use Rattle.traversal.proofs.Keeps.{snoc}
 use Rattle.traversal.proofs.Preorder.{Precedes, paths_rise}
 use Rattle.traversal.proofs.ParentOf.{Family, root_family, child_family, family_start, family_stop, FamilyAmong, Member, one_number, member_of}
-use Rattle.traversal.proofs.ParentOf.{Lies, root_array_lies, HasParent, member_depth, parent_on_trail}
-use Rattle.traversal.proofs.Children.{whole_opens, Child, whole_children}
+use Rattle.traversal.proofs.ParentOf.{Lies, root_array_lies, HasFamily, member_depth, family_on_trail}
+use Rattle.traversal.proofs.Children.{whole_opens, Child, whole_family}
 
 -- ---- of some contexts, those with one parent
 
@@ -146,8 +146,8 @@ module _ (a : Asked) (l : List Entry) (whole : traversal a ≡ on l) where
   abbrev file : List ℕ
   file = a.file
 
-  known : (e : Entry) → In e l → HasParent file l e
-  known e i = rw whole at (parent_on_trail a e (rw whole i))
+  known : (e : Entry) → In e l → HasFamily file l e
+  known e i = rw whole at (family_on_trail a e (rw whole i))
 
   of_family : (h : Family) → FamilyAmong file l h → (e : Entry) → In e l → e.parent ≡ h.parent → Member file h e
   of_family h k e i s = member_of a h (rw whole k) e (rw whole i) s
@@ -165,7 +165,7 @@ module _ (a : Asked) (l : List Entry) (whole : traversal a ≡ on l) where
     ordered = ordered_children h.parent Earlier l in_path_order;
     from = every_child h.parent (MemberFrom file h 0) l (λ e i s. record { member = of_family h k e i s; least = omega arith });
     complete = λ j n s.
-        let c = whole_children a l whole h k j s in
+        let c = whole_family a l whole h k j s in
         record { entry = c.entry; among = in_children h.parent l c.among c.member.parent; member = c.member; numbered = c.numbered };
   }
 

@@ -4,7 +4,7 @@ use Prim.Native.Nat.{ℕ, zero, suc, ◌+◌, ◌-◌, ◌≤◌, ◌<◌}
 use mathlib.Core.Bool.{Bool, true, false}
 use mathlib.Core.List.{List, [], ◌∷◌, ◌++◌, append_assoc}
 use mathlib.Core.Logic.{inl, inr}
-use mathlib.Core.Path.{◌≡◌, refl, sym, ◌∙◌, subst}
+use mathlib.Core.Path.{◌≡◌, refl, sym, ap, ◌∙◌, subst}
 use native.Mathlib.Decide.{dec_le}
 use native.Mathlib.Omega.{arith}
 use borrow.Author.Tests.{ltb-false}
@@ -16,8 +16,8 @@ use Rattle.refusal.specs.declared.Check.{Check}
 use Rattle.refusal.specs.declared.Check.TheVariants.{Passed, Refused}
 use Rattle.refusal.proofs.Checks.{if_passed_answers}
 use Rattle.open.specs.Format.{meta}
-use Rattle.open.specs.Opening.{opening, pairs, on_opened}
-use Rattle.context.specs.Context.{sibling_place, targets_of}
+use Rattle.open.specs.Opening.{field, opening, pairs, on_opened}
+use Rattle.context.specs.Context.{children_place, children_end, sibling_place, targets_of}
 use Rattle.context.specs.Entry.{Entry, entry_at}
 use Rattle.context.proofs.Siblings.{takes_some, sibling_order}
 use Rattle.traversal.specs.Demand3.{Begins}
@@ -177,9 +177,23 @@ module _ (a : Asked) (l : List Entry) (whole : traversal a ≡ on l) where
   has_all h (inl e) = subst (λ (f : Family). HasFrom E l f 0) (sym e) all_added.has
   has_all h (inr x) = subst (λ (f : Family). HasFrom E l f 0) (sym x.2) (all_in (HasChildren E l) l (all_added.children tt) x.1)
 
-  pub whole_children : (h : Family) → FamilyAmong a.file l h → (i : ℕ) → sibling_place a.file (family_start a.file h) i < family_stop a.file h
+  pub whole_family : (h : Family) → FamilyAmong a.file l h → (i : ℕ) → sibling_place a.file (family_start a.file h) i < family_stop a.file h
       → Child a.file l h i
-  whole_children h k i s =
+  whole_family h k i s =
       let found = has_all h k i (omega arith) s in
       let m = member_of a h (rw whole k) found.0 (rw whole found.1) found.2 in
       record { entry = found.0; among = found.1; member = m; numbered = one_number m i found.3 }
+
+-- a trail that ends whole has all children of each of its contexts
+pub whole_children : (a : Asked) (l : List Entry) → traversal a ≡ on l → (q : Entry) → In q l → (i : ℕ)
+    → sibling_place a.file (field a.file q.place children_place) i < children_end a.file q.place
+    → (e : Entry) × In e l × (e.place ≡ sibling_place a.file (field a.file q.place children_place) i)
+    × (e.parent ≡ q.place) × (e.path ≡ q.path ++ (i ∷ []))
+whole_children a l whole q among i s =
+    let found = whole_family a l whole (child_family q.path q.place) (inr (q, among, refl)) i s in (
+      found.entry,
+      found.among,
+      found.member.holds.stands ∙ ap (sibling_place a.file (field a.file q.place children_place)) found.numbered,
+      found.member.parent,
+      found.member.path ∙ ap (λ (k : ℕ). q.path ++ (k ∷ [])) found.numbered,
+    )

@@ -26,7 +26,7 @@ use Rattle.context.proofs.Siblings.{sibling_first, sibling_next, sibling_after}
 use Rattle.traversal.specs.Traversal.{Asked, Outcome, on, cut, refused, list_of, Parameters, endless, visit_check, enter, Down, visit, bind, turn, siblings, level, depth_limit, from_roots, traversal}
 use Rattle.traversal.specs.Children.{roots_header}
 use Rattle.traversal.specs.Demand3.{Begins}
-use Rattle.traversal.specs.Parents.{HoldsChild}
+use Rattle.traversal.specs.Parents.{HoldsChild, ParentAmong}
 use Rattle.traversal.proofs.Begins.{begins_refl, begins_trans, begins_snoc}
 use Rattle.traversal.proofs.Keeps.{snoc}
 use Rattle.traversal.proofs.Table.{id_of}
@@ -105,7 +105,7 @@ module _ (file : List ℕ) (passed : opening meta file ≡ Passed) where
 -- ---- one of some contexts
 
 -- where it stands, how deep, of which family it is, and where its children lie
-pub record HasParent (file : List ℕ) (l : List Entry) (e : Entry) : Type 0 where
+pub record HasFamily (file : List ℕ) (l : List Entry) (e : Entry) : Type 0 where
   pub placed : 0 < e.place
   pub id : e.ctx_id ≡ field file e.place ctx_id
   pub deep : e.depth ≡ length e.path
@@ -116,10 +116,10 @@ pub record HasParent (file : List ℕ) (l : List Entry) (e : Entry) : Type 0 whe
   pub among : FamilyAmong file l family
   pub member : Member file family e
 
-abbrev pub HaveParents : List ℕ → List Entry → Type 0
-HaveParents file l = All (HasParent file l) l
+abbrev pub HaveFamilies : List ℕ → List Entry → Type 0
+HaveFamilies file l = All (HasFamily file l) l
 
-module _ {file : List ℕ} {l : List Entry} {e : Entry} (b : HasParent file l e) where
+module _ {file : List ℕ} {l : List Entry} {e : Entry} (b : HasFamily file l e) where
   pub root_or_child : Member file (root_family file) e ⊎ ((q : Entry) × In q l × Member file (child_family q.path q.place) e)
   root_or_child = ⊎_elim (λ x. inl (moved x)) (λ x. inr (x.0, x.1, moved x.2)) b.among
     where
@@ -139,7 +139,7 @@ module _ (file : List ℕ) (l m : List Entry) (begins : Begins l m) where
   still_among : (h : Family) → FamilyAmong file l h → FamilyAmong file m h
   still_among h = ⊎_elim inl (λ x. inr (x.0, subst (In x.0) (sym begins.1) (in_left l begins.0 x.1), x.2))
 
-  still_has : (e : Entry) → HasParent file l e → HasParent file m e
+  still_has : (e : Entry) → HasFamily file l e → HasFamily file m e
   still_has e b = record {
     placed = b.placed;
     id = b.id;
@@ -158,18 +158,18 @@ module _ (file : List ℕ) (l m : List Entry) (begins : Begins l m) where
 -- ---- a traversal
 
 abbrev Traced : List ℕ → List Entry → Outcome → Type 0
-Traced file l o = HaveParents file (list_of o) × Begins l (list_of o)
+Traced file l o = HaveFamilies file (list_of o) × Begins l (list_of o)
 
 module _ (E : Parameters) (section : E.targets.at + E.targets.size ≤ length E.asked.file) where
   abbrev file : List ℕ
   file = E.asked.file
 
   abbrev TracesDown : Down → Type 0
-  TracesDown down = (h : Family) (l : List Entry) → ChildArray file l h → HaveParents file l
+  TracesDown down = (h : Family) (l : List Entry) → ChildArray file l h → HaveFamilies file l
       → Traced file l (down h.parent h.path (family_start file h) (family_stop file h) l)
 
   -- a context that is visited
-  module _ (h : Family) (i p : ℕ) (l : List Entry) (b : ChildArray file l h) (have : HaveParents file l)
+  module _ (h : Family) (i p : ℕ) (l : List Entry) (b : ChildArray file l h) (have : HaveFamilies file l)
       (s : p ≡ sibling_place file (family_start file h) i) (v : visit_check E (snoc h.path i) p (family_stop file h) l ≡ Passed) where
     abbrev visited : Entry
     visited = entry_at file h.parent (snoc h.path i) p
@@ -190,7 +190,7 @@ module _ (E : Parameters) (section : E.targets.at + E.targets.size ≤ length E.
         ((contexts_iff E.targets.at 16 E.targets.size (field file p children_place) (field file p children_bytes)).0 fits.children)
         section (omega (arith, ends_inside.0, b.lies.ends))
 
-    has_here : HasParent file with visited
+    has_here : HasFamily file with visited
     unfolding entry_at
     has_here =
         let after = sibling_after file (family_start file h) i in
@@ -206,14 +206,14 @@ module _ (E : Parameters) (section : E.targets.at + E.targets.size ≤ length E.
           member = record { number = i; parent = refl; path = refl; holds = record { stands = s; inside = ends_inside.1 } };
         }
 
-    have_with : HaveParents file with
-    have_with = all_append (HasParent file with) l (visited ∷ []) (all_imp (still_has file l with (begins_snoc l visited)) l have) (has_here, tt)
+    have_with : HaveFamilies file with
+    have_with = all_append (HasFamily file with) l (visited ∷ []) (all_imp (still_has file l with (begins_snoc l visited)) l have) (has_here, tt)
 
     array_below : ChildArray file with (child_family (snoc h.path i) p)
     unfolding entry_at
     array_below = record { among = inr (visited, (l, [], refl), refl); lies = lies_below }
 
-  traces_enter : (v : Check) (room : Bool) (into : List Entry → Outcome) (l : List Entry) (e : Entry) → HaveParents file l
+  traces_enter : (v : Check) (room : Bool) (into : List Entry → Outcome) (l : List Entry) (e : Entry) → HaveFamilies file l
       → (v ≡ Passed → Traced file (snoc l e) (into (snoc l e))) → Traced file l (enter v room into l e)
   unfolding enter
   traces_enter Passed true into l e h f = let r = f refl in (r.0, begins_trans l (snoc l e) (list_of (into (snoc l e))) (begins_snoc l e) r.1)
@@ -221,19 +221,19 @@ module _ (E : Parameters) (section : E.targets.at + E.targets.size ≤ length E.
   traces_enter (Refused r) room into l e h f = (h, begins_refl l)
 
   traces_bind : (l : List Entry) (o : Outcome) (next : List Entry → Outcome) → Traced file l o
-      → ((m : List Entry) → Begins l m → HaveParents file m → Traced file m (next m)) → Traced file l (bind o next)
+      → ((m : List Entry) → Begins l m → HaveFamilies file m → Traced file m (next m)) → Traced file l (bind o next)
   unfolding bind
   traces_bind l (on m) next r f = let n = f m r.1 r.0 in (n.0, begins_trans l m (list_of (next m)) r.1 n.1)
   traces_bind l (cut m) next r f = r
   traces_bind l (refused v m) next r f = r
 
-  traces_turn : (t : Bool) (here next : List Entry → Outcome) (l : List Entry) → HaveParents file l → Traced file l (here l)
-      → ((m : List Entry) → Begins l m → HaveParents file m → Traced file m (next m)) → Traced file l (turn t here next l)
+  traces_turn : (t : Bool) (here next : List Entry → Outcome) (l : List Entry) → HaveFamilies file l → Traced file l (here l)
+      → ((m : List Entry) → Begins l m → HaveFamilies file m → Traced file m (next m)) → Traced file l (turn t here next l)
   unfolding turn
   traces_turn true here next l h g f = traces_bind l (here l) next g f
   traces_turn false here next l h g f = (h, begins_refl l)
 
-  traces_siblings : (down : Down) → TracesDown down → (h : Family) (bound i p : ℕ) (l : List Entry) → ChildArray file l h → HaveParents file l
+  traces_siblings : (down : Down) → TracesDown down → (h : Family) (bound i p : ℕ) (l : List Entry) → ChildArray file l h → HaveFamilies file l
       → p ≡ sibling_place file (family_start file h) i → Traced file l (siblings E down h.parent h.path bound i p (family_stop file h) l)
   unfolding siblings visit
   traces_siblings down d h zero i p l b have s = (have, begins_refl l)
@@ -255,14 +255,14 @@ module _ (E : Parameters) (section : E.targets.at + E.targets.size ≤ length E.
       (sym (sibling_first file (family_start file h)))
 
 -- of all on a file's trail
-have_parents : (a : Asked) → HaveParents a.file (list_of (traversal a))
+have_families : (a : Asked) → HaveFamilies a.file (list_of (traversal a))
 unfolding traversal on_opened if_passed from_roots targets_of
-have_parents a = go (opening meta a.file) refl
+have_families a = go (opening meta a.file) refl
   where
     E : Parameters
     E = endless a (targets_of a.file (pairs meta a.file))
 
-    go : (v : Check) → opening meta a.file ≡ v → HaveParents a.file (list_of (if_passed (λ r. refused r []) v (from_roots E)))
+    go : (v : Check) → opening meta a.file ≡ v → HaveFamilies a.file (list_of (if_passed (λ r. refused r []) v (from_roots E)))
     go Passed e =
         (traces_level E (section_lies a.file e) (suc depth_limit) (root_family a.file) []
         (record { among = inl refl; lies = root_array_lies a.file e }) tt).0
@@ -272,14 +272,14 @@ module _ (a : Asked) where
   abbrev trail : List Entry
   trail = list_of (traversal a)
 
-  pub parent_on_trail : (e : Entry) → In e (list_of (traversal a)) → HasParent a.file (list_of (traversal a)) e
-  parent_on_trail e h = all_in (HasParent a.file trail) trail (have_parents a) h
+  pub family_on_trail : (e : Entry) → In e (list_of (traversal a)) → HasFamily a.file (list_of (traversal a)) e
+  family_on_trail e h = all_in (HasFamily a.file trail) trail (have_families a) h
 
   -- a place is that of one context, since its id stands there
   pub one_place : (d e : Entry) → In d (list_of (traversal a)) → In e (list_of (traversal a)) → d.place ≡ e.place → d ≡ e
   one_place d e hd he s =
       distinct_one id_of trail (traversal_ids a).distinct d e hd he
-      ((parent_on_trail d hd).id ∙ ap (λ (p : ℕ). field a.file p ctx_id) s ∙ sym (parent_on_trail e he).id)
+      ((family_on_trail d hd).id ∙ ap (λ (p : ℕ). field a.file p ctx_id) s ∙ sym (family_on_trail e he).id)
 
   -- so a parent is that of one family
   one_family : (g h : Family) → FamilyAmong a.file trail g → FamilyAmong a.file trail h → g.parent ≡ h.parent → g ≡ h
@@ -290,8 +290,8 @@ module _ (a : Asked) where
 
       go : FamilyAmong a.file trail g → FamilyAmong a.file trail h → g ≡ h
       go (inl x) (inl y) = x ∙ sym y
-      go (inl x) (inr y) = absurd (omega (arith, parent_same x, parent_same y.2, (parent_on_trail y.0 y.1).placed))
-      go (inr x) (inl y) = absurd (omega (arith, parent_same y, parent_same x.2, (parent_on_trail x.0 x.1).placed))
+      go (inl x) (inr y) = absurd (omega (arith, parent_same x, parent_same y.2, (family_on_trail y.0 y.1).placed))
+      go (inr x) (inl y) = absurd (omega (arith, parent_same y, parent_same x.2, (family_on_trail x.0 x.1).placed))
       go (inr x) (inr y) =
           let same : x.0.place ≡ y.0.place = omega (arith, parent_same x.2, parent_same y.2) in
           x.2 ∙ ap (λ (q : Entry). child_family q.path q.place) (one_place x.0 y.0 x.1 y.1 same) ∙ sym y.2
@@ -300,5 +300,34 @@ module _ (a : Asked) where
   pub member_of : (h : Family) → FamilyAmong a.file (list_of (traversal a)) h → (e : Entry) → In e (list_of (traversal a)) → e.parent ≡ h.parent
       → Member a.file h e
   member_of h k e i s =
-      let known = parent_on_trail e i in
+      let known = family_on_trail e i in
       subst (λ (g : Family). Member a.file g e) (one_family known.family h known.among k (sym known.member.parent ∙ s)) known.member
+
+-- ---- whose child each context on a trail is
+
+-- a parent leads to its children
+unfoldable pub leads : {file : List ℕ} {l : List Entry} {q e : Entry} → In q l → Member file (child_family q.path q.place) e → ParentAmong file l q e
+leads h m = record { among = h; number = m.number; path = m.path; holds = m.holds }
+
+-- one of some contexts: where it stands, and whose child it is
+pub record HasParent (file : List ℕ) (l : List Entry) (e : Entry) : Type 0 where
+  pub placed : 0 < e.place
+  pub deep : e.depth ≡ length e.path
+  pub some : 0 < e.depth
+  pub id : e.ctx_id ≡ field file e.place ctx_id
+  pub of : ((e.parent ≡ 0) × (e.depth ≡ 1)) ⊎ ((q : Entry) × ParentAmong file l q e × (e.parent ≡ q.place))
+
+abbrev pub HaveParents : List ℕ → List Entry → Type 0
+HaveParents file l = All (HasParent file l) l
+
+pub parent_on_trail : (a : Asked) (e : Entry) → In e (list_of (traversal a)) → HasParent a.file (list_of (traversal a)) e
+parent_on_trail a e h =
+    let known = family_on_trail a e h in
+    record {
+      placed = known.placed;
+      deep = known.deep;
+      some = known.some;
+      id = known.id;
+      of = ⊎_elim (λ m. inl (m.parent, member_depth known (root_family a.file) m))
+          (λ x. inr (x.0, leads x.1 x.2, x.2.parent)) (root_or_child known);
+    }

@@ -23,8 +23,8 @@ use Rattle.traversal.specs.Parents.{HoldsChild, ParentAmong, parent_word, Parent
 use Rattle.traversal.proofs.From.{list_from}
 use Rattle.traversal.proofs.Keeps.{snoc}
 use Rattle.traversal.proofs.Preorder.{paths_distinct}
-use Rattle.traversal.proofs.ParentOf.{root_family, child_family, Member, HasParent, root_or_child, member_depth, parent_on_trail, one_place}
-use Rattle.traversal.proofs.Children.{Child, whole_children}
+use Rattle.traversal.proofs.ParentOf.{root_family, child_family, Member, HasFamily, root_or_child, leads, member_depth, family_on_trail, one_place}
+use Rattle.traversal.proofs.Children.{Child, whole_family}
 use Rattle.traversal.proofs.Demand3.{demand3}
 
 snoc_same : (a b : List ℕ) (x y : ℕ) → snoc a x ≡ snoc b y → a ≡ b
@@ -32,13 +32,9 @@ snoc_same a b x y e =
     let long : length a ≡ length b = omega (arith, ap length e, length-append a (x ∷ []), length-append b (y ∷ [])) in
     sym (take_at a (x ∷ []) (length b) long) ∙ ap (take (length b)) e ∙ take_at b (y ∷ []) (length b) refl
 
--- a parent leads to its children
-leads : {file : List ℕ} {l : List Entry} {q e : Entry} → In q l → Member file (child_family q.path q.place) e → ParentAmong file l q e
-leads h m = record { among = h; number = m.number; path = m.path; holds = m.holds }
-
 module _ {file : List ℕ} (c : Call file) where
-  parent_of : (e : Entry) → In e (contexts c) → HasParent file (contexts c) e
-  parent_of e h = parent_on_trail (asked c) e h
+  parent_of : (e : Entry) → In e (contexts c) → HasFamily file (contexts c) e
+  parent_of e h = family_on_trail (asked c) e h
 
   -- ---- words
 
@@ -65,7 +61,7 @@ module _ {file : List ℕ} (c : Call file) where
   root_word : (n : ℕ) (e : Entry) → RecordOf c n e → (parent_word c n ≡ 0) ↔ (e.depth ≡ 1)
   root_word n e h = rw (word_is n e h) (by (root_or_child known))
     where
-      known : HasParent file (contexts c) e
+      known : HasFamily file (contexts c) e
       known = parent_of e (recorded_on_trail n e h)
 
       by : Member file (root_family file) e ⊎ ((q : Entry) × In q (contexts c) × Member file (child_family q.path q.place) e)
@@ -98,7 +94,7 @@ module _ {file : List ℕ} (c : Call file) where
     start = field file q.place children_place
 
     child : sibling_place file start i < children_end file q.place → Child file l (child_family q.path q.place) i
-    child k = whole_children (asked c) l whole (child_family q.path q.place) (inr (q, among, refl)) i k
+    child k = whole_family (asked c) l whole (child_family q.path q.place) (inr (q, among, refl)) i k
 
     holder : (e : Entry) → In e l → HoldsChild file q.place i e.place → e.parent ≡ q.place
     holder e h at =
