@@ -24,11 +24,11 @@ use Rattle.traversal.proofs.Preorder.{paths_distinct}
 use Rattle.traversal.proofs.Places.{mark_at, skipped_mark, passed_mark, mark_skipped, last_append, last_all, last_mark}
 
 -- from a mark on with room for n, and the path of its new mark
-unfoldable pub walked_from : (path : List ℕ) (n : ℕ) → Outcome → Outcome
-walked_from path n o = truncate n (from_mark path o)
+unfoldable pub outcome_from : (path : List ℕ) (n : ℕ) → Outcome → Outcome
+outcome_from path n o = truncate n (from_mark path o)
 
 unfoldable pub path_after : (path : List ℕ) (n : ℕ) → Outcome → List ℕ
-path_after path n o = last_path path (list_of (walked_from path n o))
+path_after path n o = last_path path (list_of (outcome_from path n o))
 
 -- ---- truncated twice
 
@@ -71,8 +71,8 @@ module _ (l : List Entry) (a b : ℕ) where
 -- ---- from a mark that is not passed: nothing, whatever the room, and the mark that it had
 
 module _ (o : Outcome) (path : List ℕ) (n : ℕ) (h : is_passed path (list_of o) ≡ false) where
-  walk_unpassed : walked_from path n o ≡ unpassed o
-  unfolding walked_from
+  walk_unpassed : outcome_from path n o ≡ unpassed o
+  unfolding outcome_from
   walk_unpassed =
       ap (truncate n) (from_unpassed path o h) ∙ truncate_short n (unpassed o) (rw (list_unpassed o) (omega arith))
 
@@ -91,12 +91,12 @@ unfolding up_to_mark either
 up_to_passed path l h = rw h
 
 -- the contexts after its mark, as many as there is room for
-pub list_walk : (o : Outcome) (path : List ℕ) (n : ℕ) → list_of (walked_from path n o) ≡ take n (after_mark path (list_of o))
-unfolding walked_from
+pub list_walk : (o : Outcome) (path : List ℕ) (n : ℕ) → list_of (outcome_from path n o) ≡ take n (after_mark path (list_of o))
+unfolding outcome_from
 list_walk o path n = list_truncate n (from_mark path o) ∙ ap (take n) (list_from path o)
 
 -- so they are among all
-walk_all : (P : Entry → Type 0) (o : Outcome) (path : List ℕ) (n : ℕ) → All P (list_of o) → All P (list_of (walked_from path n o))
+walk_all : (P : Entry → Type 0) (o : Outcome) (path : List ℕ) (n : ℕ) → All P (list_of o) → All P (list_of (outcome_from path n o))
 unfolding after_mark
 walk_all P o path n k =
     subst (All P) (sym (list_walk o path n))
@@ -132,7 +132,7 @@ module _ (o : Outcome) (apart : Distinct (marks_of (list_of o))) (path : List �
   new_skipped = ap (λ (p : List ℕ). skipped p (list_of o)) new_mark ∙ skipped_mark (list_of o) arrived apart arrived_inside
 
   -- up to the new mark: those passed over, then those listed
-  up_to_new : up_to_mark (path_after path n o) (list_of o) ≡ up_to_mark path (list_of o) ++ list_of (walked_from path n o)
+  up_to_new : up_to_mark (path_after path n o) (list_of o) ≡ up_to_mark path (list_of o) ++ list_of (outcome_from path n o)
   unfolding after_mark
   up_to_new =
       up_to_passed (path_after path n o) (list_of o) new_passed ∙ ap (λ (k : ℕ). take k (list_of o)) new_skipped
@@ -150,11 +150,11 @@ module _ (o : Outcome) (apart : Distinct (marks_of (list_of o))) (path : List �
   -- the lists joined, with the second's end
   abbrev Joins : Type 0
   Joins =
-      with_list (walked_from (path_after path a o) b o) (list_of (walked_from path a o) ++ list_of (walked_from (path_after path a o) b o))
-      ≡ walked_from path (a + b) o
+      with_list (outcome_from (path_after path a o) b o) (list_of (outcome_from path a o) ++ list_of (outcome_from (path_after path a o) b o))
+      ≡ outcome_from path (a + b) o
 
   join_passed : is_passed path (list_of o) ≡ true → Joins
-  unfolding walked_from
+  unfolding outcome_from
   join_passed h =
       let next = new_passed o apart path a h in
       let after = after_new o apart path a h in
@@ -165,8 +165,8 @@ module _ (o : Outcome) (apart : Distinct (marks_of (list_of o))) (path : List �
 
   join_unpassed : is_passed path (list_of o) ≡ false → Joins
   join_unpassed h =
-      let second : walked_from (path_after path a o) b o ≡ unpassed o =
-      ap (λ (p : List ℕ). walked_from p b o) (path_unpassed o path a h) ∙ walk_unpassed o path b h in
+      let second : outcome_from (path_after path a o) b o ≡ unpassed o =
+      ap (λ (p : List ℕ). outcome_from p b o) (path_unpassed o path a h) ∙ walk_unpassed o path b h in
       ap₂ with_list second (ap₂ ◌++◌ (ap list_of (walk_unpassed o path a h) ∙ list_unpassed o) (ap list_of second))
       ∙ with_own (unpassed o) ∙ sym (walk_unpassed o path (a + b) h)
 
@@ -181,14 +181,14 @@ module _ (o : Outcome) (apart : Distinct (marks_of (list_of o))) (path : List �
   pub join_path : path_after (path_after path a o) b o ≡ path_after path (a + b) o
   unfolding path_after
   join_path =
-      sym (last_append path (list_of (walked_from path a o)) (list_of (walked_from (path_after path a o) b o)))
-      ∙ ap (last_path path) (sym (list_with (walked_from (path_after path a o) b o) _) ∙ ap list_of join_outcome)
+      sym (last_append path (list_of (outcome_from path a o)) (list_of (outcome_from (path_after path a o) b o)))
+      ∙ ap (last_path path) (sym (list_with (outcome_from (path_after path a o) b o) _) ∙ ap list_of join_outcome)
 
 -- ---- a walk of a file behind the rules that stand before the trail
 
 module _ (a : Asked) (check : walk_check a ≡ Check.Passed) where
-  pub walk_from : walk_of a ≡ walked_from (given_path a) a.lent.words (traversal a)
-  unfolding walk_of trail_from if_passed walked_from
+  pub walk_from : walk_of a ≡ outcome_from (given_path a) a.lent.words (traversal a)
+  unfolding walk_of trail_from if_passed outcome_from
   walk_from = rw check
 
   pub path-after : new_path a ≡ path_after (given_path a) a.lent.words (traversal a)

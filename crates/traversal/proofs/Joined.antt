@@ -30,7 +30,7 @@ use Rattle.traversal.proofs.From.{list_with, list_unpassed, from_unpassed}
 use Rattle.traversal.proofs.Trail.{trail_same}
 use Rattle.traversal.proofs.Preorder.{paths_distinct}
 use Rattle.traversal.proofs.Records.{words_append, length_words}
-use Rattle.traversal.proofs.Join.{walked_from, path_after, new_passed, join_outcome, join_path, walk_from, path-after, new_path_all}
+use Rattle.traversal.proofs.Join.{outcome_from, path_after, new_passed, join_outcome, join_path, walk_from, path-after, new_path_all}
 use Rattle.traversal.proofs.Small.{contexts_encodable}
 use Rattle.traversal.proofs.Demand3.{counted, same_listed, listed_length, record-words, filled, demand3}
 use Rattle.traversal.proofs.Rules.{roomy_check, begun_passes, begun_path, check_told, mark-passed, passed_check}
@@ -251,14 +251,14 @@ module _ {file : List ℕ} (octets : Octets file) (c d : Call file) (can : Encod
     trail_whole : traversal (asked whole) ≡ o
     trail_whole = alike_traversal c whole given slots (λ e. f.roomy) roomy-whole
 
-    walk_d : walk_of (asked d) ≡ walked_from (path_after path n o) m o
-    walk_d = walk_from (asked d) check_d ∙ ap₂ (λ (p : List ℕ) (x : Outcome). walked_from p m x) given_d trail_d
+    walk_d : walk_of (asked d) ≡ outcome_from (path_after path n o) m o
+    walk_d = walk_from (asked d) check_d ∙ ap₂ (λ (p : List ℕ) (x : Outcome). outcome_from p m x) given_d trail_d
 
-    walk_whole : walk_of (asked whole) ≡ walked_from path (n + m) o
+    walk_whole : walk_of (asked whole) ≡ outcome_from path (n + m) o
     walk_whole =
         walk_from (asked whole) check_whole
-        ∙ ap₂ (λ (p : List ℕ) (x : Outcome). walked_from p (length whole.was.listing) x) given_whole trail_whole
-        ∙ ap (λ (k : ℕ). walked_from path k o) room
+        ∙ ap₂ (λ (p : List ℕ) (x : Outcome). outcome_from p (length whole.was.listing) x) given_whole trail_whole
+        ∙ ap (λ (k : ℕ). outcome_from path k o) room
 
     path_d : new_path (asked d) ≡ path_after (path_after path n o) m o
     path_d = path-after (asked d) check_d ∙ ap₂ (λ (p : List ℕ) (x : Outcome). path_after p m x) given_d trail_d

@@ -23,7 +23,7 @@ use Rattle.traversal.proofs.Passing.{skipped_front, marks_passed, marks_unpassed
 use Rattle.traversal.proofs.Cut.{truncate_short, truncate_long, truncate_after, after_short, after_long, cuts_after}
 use Rattle.traversal.proofs.Places.{mark_at, mark_skipped, last_append, last_mark}
 use Rattle.traversal.proofs.Rules.{check_told}
-use Rattle.traversal.proofs.Join.{walked_from, up_to_passed, list_walk, walk_from, reached_passed, reached_unpassed}
+use Rattle.traversal.proofs.Join.{outcome_from, up_to_passed, list_walk, walk_from, reached_passed, reached_unpassed}
 
 -- ---- an outcome cut n contexts after a mark
 
@@ -154,7 +154,7 @@ module _ (a : Asked) (check : walk_check a ≡ Check.Passed) where
       ∙ sym (last_append [] (up_to_mark p whole) (list_of (walk_of a))) ∙ ap (last_path []) (all_visited h)
 
   visits_by : VisitedBy a visits
-  unfolding walked_from mark_passed if_passed
+  unfolding outcome_from mark_passed if_passed
   visits_by =
       let same = passing_after p words (traversal a) in
       record {
