@@ -1,4 +1,4 @@
--- Request 2026-08 on file W, computed through the definitions that the promises cite. The roots A (at 216, ctx_id 1) and B (240, 4); below A
+-- Request 2026-08 on file W, computed through the definitions that the promises cite. The roots A (at 216, ctxId 1) and B (240, 4); below A
 -- its children C (264, 2) and D (288, 3).
 use Prim.Native.Nat.{ℕ}
 use mathlib.Core.List.{[], ◌∷◌}
@@ -17,8 +17,8 @@ minus_one = 0xbff0_0000_0000_0000
 abbrev minus_zero : ℕ
 minus_zero = 0x8000_0000_0000_0000
 
-abbrev not_aNumber : ℕ
-not_aNumber = 0x7ff8_0000_0000_0000
+abbrev not_a_number : ℕ
+not_a_number = 0x7ff8_0000_0000_0000
 
 pub cases_hot_path :
     -- the first of equal roots, and a child below 0
@@ -26,9 +26,9 @@ pub cases_hot_path :
     -- zeros of either sign are equal
     × (hot_in_w (values_file 1 minus_zero 4 0 9 one) 7 4 2 ≡ (0 ∷ 1 ∷ []) ∷ (216 ∷ 9 ∷ []) ∷ [])
     -- NaN of a root; of a child on the way, although there is no room; and off the way
-    × (hot_in_w (values_file 1 minus_zero 4 not_aNumber 9 one) 7 4 2 ≡ (16 ∷ []) ∷ (9 ∷ 9 ∷ []) ∷ [])
-    × (hot_in_w (values_file 1 two 2 not_aNumber 4 one) 7 4 0 ≡ (16 ∷ []) ∷ [] ∷ [])
-    × (hot_in_w (values_file 1 one 2 not_aNumber 4 two) 7 4 1 ≡ (0 ∷ 1 ∷ []) ∷ (240 ∷ []) ∷ [])
+    × (hot_in_w (values_file 1 minus_zero 4 not_a_number 9 one) 7 4 2 ≡ (16 ∷ []) ∷ (9 ∷ 9 ∷ []) ∷ [])
+    × (hot_in_w (values_file 1 two 2 not_a_number 4 one) 7 4 0 ≡ (16 ∷ []) ∷ [] ∷ [])
+    × (hot_in_w (values_file 1 one 2 not_a_number 4 two) 7 4 1 ≡ (0 ∷ 1 ∷ []) ∷ (240 ∷ []) ∷ [])
     -- too few words; a walk that is cut, before profile.db is looked at; and that one's refusal
     × (hot_in_w (values_file 1 one 3 two 9 one) 7 4 1 ≡ (17 ∷ []) ∷ (9 ∷ []) ∷ [])
     × (hot_in_w [] 7 3 1 ≡ (17 ∷ []) ∷ (9 ∷ []) ∷ [])

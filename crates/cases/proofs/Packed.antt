@@ -5,7 +5,7 @@ use mathlib.Core.Path.{◌≡◌, refl}
 use Rattle.cases.specs.Walks.{walked_records}
 use Rattle.cases.specs.FlexFile.{flex_file, a_module, a_file, a_function}
 
--- place, depth, ctx_id, relation, lexical_type, flags mod 8; function, file, line, module, offset; parent
+-- place, depth, ctxId, relation, lexicalType, flags mod 8; function, file, line, module, offset; parent
 pub cases_packed :
     -- 14 is row 6
     (walked_records (flex_file 14 (a_file ∷ 7 ∷ a_module ∷ 5 ∷ [])) [] 2 3 24

@@ -8,12 +8,12 @@ abbrev pub entry : (size place : ℕ) → List ℕ
 entry size place = fields (8 is size ∷ 8 is place ∷ [])
 
 -- a context up to its flex words
-abbrev pub context_with : (flags nFlexWords szChildren pChildren ctx_id lexical_type relation : ℕ) → List ℕ
+abbrev pub context_with : (flags n_flex_words sz_children p_children ctx_id lexical_type relation : ℕ) → List ℕ
 context_with flags words size place id type relation =
     fields (8 is size ∷ 8 is place ∷ 4 is id ∷ 1 is flags ∷ 1 is relation ∷ 1 is type ∷ 1 is words ∷ [])
 
 -- with flags 0 and no flex words
-abbrev pub context : (szChildren pChildren ctx_id lexical_type relation : ℕ) → List ℕ
+abbrev pub context : (sz_children p_children ctx_id lexical_type relation : ℕ) → List ℕ
 context = context_with 0 0
 
 -- the header of an array without elements: place, count, stride

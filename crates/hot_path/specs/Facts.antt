@@ -19,7 +19,7 @@ use Rattle.hot_path.specs.declared.HotPath.{HotPath}
 use Rattle.hot_path.specs.declared.HotPath.TheVariants.{Of, Refused}
 use Rattle.hot_path.specs.HotPath.{Question, PathSlices, walk_asked, value_of, the_answer, LeavesPath}
 
--- ---- a way down, on a trail, by the value of each ctx_id
+-- ---- a way down, on a trail, by the value of each ctxId
 
 module _ (value : ℕ → Lookup) (l : List Entry) where
   -- a context on the trail with this parent, 0 for the roots, has a value

@@ -71,7 +71,7 @@ follow (Hottest.At place) below = with_place place (below place)
 follow Hottest.Nowhere below = along []
 follow (Hottest.Refused r) below = stopped r
 
--- the hottest of the contexts on a trail with this parent; of the roots for 0. Values are looked up by the ctx_id
+-- the hottest of the contexts on a trail with this parent; of the roots for 0. Values are looked up by the ctxId
 abbrev pub hottest_below : (value : ℕ → Lookup) → List Entry → (parent : ℕ) → Hottest
 hottest_below value l parent = hottest_of (candidates place_of (λ e. value e.ctx_id) (children_of parent l))
 

@@ -15,7 +15,7 @@ use Rattle.hot_path.specs.declared.HotPath.{HotPath}
 use Rattle.hot_path.specs.declared.HotPath.TheVariants.{Of, Refused}
 use Rattle.hot_path.specs.HotPath.{Candidate, candidates, Descent, along, stopped, descent_from}
 
--- the value of a ctx_id in a checked block
+-- the value of a ctxId in a checked block
 abbrev pub block_value : (db : List ℕ) → Block → (metric : ℕ) → (id : ℕ) → Lookup
 block_value db b metric id = lookup_in db profile_shape b id metric
 

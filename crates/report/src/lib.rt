@@ -2,7 +2,7 @@
 // do.
 #![tactic(auto)]
 
-ghost use Rattle.std.specs.Prelude.{◌≡◌, ℕ, ltb, length, IfOk, OnErr};
+ghost use Rattle.std.specs.Prelude.{true, ◌≡◌, ℕ, ltb, length, IfOk, OnErr};
 ghost use Rattle.traversal.specs.Walk.{number_listed, slices, Leaves};
 
 use context::{PARENT, RECORD};
@@ -92,9 +92,10 @@ pub fn show(
     Ok(listed(walked))
 }
 
-// Whether a file is too long for the listing program, which then says so.
+// Whether a file is too long for the listing program, which then says so. Only that can fail.
 pub fn too_long(rt: &impl Print, file: &[u8]) -> io::Result<bool>
-    ensures { IfOk result (λ b. b ≡ ltb 32768 (length file.now)) }
+    ensures ok { IfOk result (λ b. b ≡ ltb 32768 (length file.now)) }
+    ensures err { OnErr result (ltb 32768 (length file.now) ≡ true) }
 {
     if LONGEST < file.len() {
         println!(rt; "too long")?;

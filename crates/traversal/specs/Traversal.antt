@@ -65,7 +65,7 @@ limited a t = parameters a t (λ l. ltb (length l) a.lent.words)
 abbrev pub depth_limit : ℕ
 depth_limit = 200
 
--- a context with this ctx_id is among some
+-- a context with this ctxId is among some
 unfoldable pub seen : (id : ℕ) → List Entry → Bool
 seen id [] = false
 seen id (e ∷ es) = eqb id e.ctx_id || seen id es

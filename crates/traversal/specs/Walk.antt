@@ -76,7 +76,7 @@ place_of e = e.place
 unfoldable pub listing_with : List Entry → (was : List ℕ) → List ℕ
 listing_with l was = over was 0 (map place_of l)
 
--- slot ctx_id of each context holds its place
+-- slot ctxId of each context holds its place
 unfoldable pub slots_with : List Entry → (table : List ℕ) → List ℕ
 slots_with [] table = table
 slots_with (e ∷ es) table = slots_with es (set table e.ctx_id e.place)

@@ -17,7 +17,7 @@ Placed (e ∷ es) = (0 < e.place) × Placed es
 abbrev pub taken : (table : List ℕ) (id : ℕ) → Bool
 taken table id = not (eqb (get_or table id 0) 0)
 
--- the rules of a visit after 10, with the table's word for whether the ctx_id is on the trail
+-- the rules of a visit after 10, with the table's word for whether the ctxId is on the trail
 unfoldable pub checks_after10 : List ℕ → Targets → (depth p : ℕ) (table : List ℕ) → Check
 checks_after10 file t depth p table =
     first (rule (links_rule t file p) No.Link)
