@@ -1,20 +1,12 @@
 -- An array's elements, by position and by place.
-use Rattle.std.specs.Prelude.{ℕ, zero, suc, ◌+◌, ◌*◌, ◌^◌, ◌<◌, Bool, false, ◌||◌, ltb, eqb}
-use Rattle.refusal.specs.declared.Refusal.{Refusal}
+use Rattle.std.specs.Prelude.{ℕ, zero, suc, ◌+◌, ◌*◌, ◌^◌, ◌<◌, Bool, false, ◌||◌, ltb, eqb, Err, Ok}
 use Rattle.refusal.specs.declared.Refusal.TheVariants as No
-use Rattle.refusal.specs.Check.{either}
+use Rattle.refusal.specs.Check.{either, Answer}
 use Rattle.array.specs.declared.Array.{Array}
-use Rattle.array.specs.declared.Element.{Element}
-use Rattle.array.specs.declared.Element.TheVariants.{At, Refused}
 
 -- the place of element i; 15 for a position that is not below the count
-unfoldable pub element_at : Array → (i : ℕ) → Element
-element_at a i = either (ltb i a.count) (At (a.place + i * a.stride)) (Refused No.Index)
-
--- what is answered of an element's place, or the refusal
-unfoldable pub on_element : {A : Type 0} → (Refusal → A) → Element → (ℕ → A) → A
-on_element refused (At place) answer = answer place
-on_element refused (Refused r) answer = refused r
+unfoldable pub element_at : Array → (i : ℕ) → Answer ℕ
+element_at a i = either (ltb i a.count) (Ok (a.place + i * a.stride)) (Err No.Index)
 
 -- a link: there is an index below the count whose element stands at this place
 unfoldable pub linked_below : (from stride count place : ℕ) → Bool

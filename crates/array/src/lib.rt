@@ -16,22 +16,15 @@ pub struct Array {
     pub stride: u64,
 }
 
-// The place of an element, or the refusal.
-#[derive(Clone, Copy)]
-pub enum Element {
-    At(u64),
-    Refused(refusal::Refusal),
-}
-
-// Element i; 15 where there is none.
-pub fn nth(a: Array, i: u64) -> Element
+// The place of element i; 15 where there is none.
+pub fn nth(a: Array, i: u64) -> Result<u64, Refusal>
     requires { Bounded a }
     ensures { result ≡ element_at a i }
 {
     if i < a.count {
-        Element::At(a.place + i * a.stride)
+        Ok(a.place + i * a.stride)
     } else {
-        Element::Refused(Refusal::Index)
+        Err(Refusal::Index)
     }
 }
 

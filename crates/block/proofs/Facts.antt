@@ -1,4 +1,5 @@
 -- A block by its tests and by facts: what each answer of its check says, and what a lookup in a well-formed block says.
+use Rattle.std.specs.Prelude.{Err, None, Option, Some}
 use Prim.Native.Nat.{ℕ, zero, suc, ◌+◌, ◌-◌, ◌*◌, ◌<◌}
 use mathlib.Core.Bool.{Bool, true, false, ◌&&◌}
 use mathlib.Core.List.{List}
@@ -13,20 +14,14 @@ use Rattle.outside.specs.Outside.{lies}
 use Rattle.outside.proofs.Apart.{lies_iff}
 use Rattle.refusal.specs.declared.Refusal.{Refusal}
 use Rattle.refusal.specs.declared.Refusal.TheVariants as No
-use Rattle.refusal.specs.declared.Check.{Check}
-use Rattle.refusal.specs.declared.Check.TheVariants.{Passed, Refused}
-use Rattle.refusal.specs.Check.{either, rule, first}
+use Rattle.refusal.specs.Check.{either, rule, first, Check, Passed}
 use Rattle.refusal.proofs.Numbers.{7-is-not-11}
 use Rattle.refusal.proofs.Checks.{Decides, rule_decides, first_decides, both_hold, first_broken, second_broken}
-use Rattle.seq.specs.declared.Position.{Position}
-use Rattle.seq.specs.declared.Position.TheVariants.{At, Nowhere}
 use Rattle.seq.specs.Sequence.{position}
 use Rattle.seq.proofs.Search.{position_at, position_below, position_key}
 use Rattle.block.specs.declared.Shape.{Shape}
 use Rattle.block.specs.declared.Block.{Block}
-use Rattle.block.specs.declared.Lookup.{Lookup}
-use Rattle.block.specs.declared.Lookup.TheVariants.{Found, Absent}
-use Rattle.block.specs.Block.{range_rule, start_of, end_of, part_of, part_at, outer_ids, inner_ids, id_at, word_at, order_rule, block_check, value_at, in_part, index_of, lookup_in}
+use Rattle.block.specs.Block.{range_rule, start_of, end_of, part_of, part_at, outer_ids, inner_ids, word_at, order_rule, block_check, value_at, in_part, index_of, lookup_in}
 use Rattle.block.specs.OrderKept.{OrderKept}
 use Rattle.block.specs.Facts.{RangesKept, WellFormed, Holds}
 use Rattle.block.proofs.Order.{order_iff}
@@ -110,27 +105,27 @@ module _ (file : List ℕ) (h : Shape) (sections : List (List ℕ)) (b : Block) 
       )
 
   -- 7 exactly if it has values without indices, or indices and a clause of rule 7 fails
-  pub refused_7 : (block_check file h sections b ≡ Refused No.Array)
+  pub refused_7 : (block_check file h sections b ≡ Err No.Array)
       ↔ (((b.count ≡ 0) × (b.total ≡ 0 → ⊥)) ⊎ ((0 < b.count) × (RangesKept file h sections b → ⊥)))
   refused_7 =
       let none = none_decides.refuses No.Array in
-      by_count (Refused No.Array) (λ e. (none.0 e).1, λ n. none.1 (refl, n))
+      by_count (Err No.Array) (λ e. (none.0 e).1, λ n. none.1 (refl, n))
       (first_broken (range_rule file h sections b) (order_rule file h b) ranges_iff (order_iff file h b) 7-is-not-11)
 
   -- 11 exactly if it has indices, rule 7 holds and the order does not
-  pub refused_11 : (block_check file h sections b ≡ Refused No.Order)
+  pub refused_11 : (block_check file h sections b ≡ Err No.Order)
       ↔ ((0 < b.count) × (RangesKept file h sections b × (OrderKept file h b → ⊥)))
   refused_11 =
-      let i = by_count (Refused No.Order) (none_decides.refuses No.Order)
+      let i = by_count (Err No.Order) (none_decides.refuses No.Order)
       (second_broken (range_rule file h sections b) (order_rule file h b) ranges_iff (order_iff file h b) 7-is-not-11) in
       (λ e. ⊎_elim (λ k. absurd (7-is-not-11 k.1.0)) (λ k. k) (i.0 e), λ k. i.1 (inr k))
 
   -- it has no refusals but these
-  pub 7-or-11 : (r : Refusal) → block_check file h sections b ≡ Refused r → (r ≡ No.Array) ⊎ (r ≡ No.Order)
+  pub 7-or-11 : (r : Refusal) → block_check file h sections b ≡ Err r → (r ≡ No.Array) ⊎ (r ≡ No.Order)
   unfolding block_check either
   7-or-11 r e = go (eqb b.count 0) e
     where
-      go : (t : Bool) → either t empty filled ≡ Refused r → (r ≡ No.Array) ⊎ (r ≡ No.Order)
+      go : (t : Bool) → either t empty filled ≡ Err r → (r ≡ No.Array) ⊎ (r ≡ No.Order)
       go true x = inl (sym ((none_decides.refuses r).0 x).0)
       go false x =
           ⊎_map (λ k. sym k.0) (λ k. sym k.1.0)
@@ -139,28 +134,15 @@ module _ (file : List ℕ) (h : Shape) (sections : List (List ℕ)) (b : Block) 
 
 -- ---- a lookup
 
--- it refuses nothing
-pub lookup_answers : (file : List ℕ) (h : Shape) (b : Block) (outer inner : ℕ) (r : Refusal) → lookup_in file h b outer inner ≡ Lookup.Refused r → ⊥
-unfolding lookup_in in_part value_at
-lookup_answers file h b outer inner r e = go (index_of file h b outer) e
-  where
-    value : (at : ℕ) (p : Position) → value_at file h b at p ≡ Lookup.Refused r → ⊥
-    value at (At k) x = let z : ◌≡◌ {A = ℕ} 0 1 = cc in omega arith
-    value at Nowhere x = let z : ◌≡◌ {A = ℕ} 0 1 = cc in omega arith
-
-    go : (p : Position) → in_part file h b inner p ≡ Lookup.Refused r → ⊥
-    go (At i) x = let part = part_at file h b i in value part.place (position (id_at h.inner file part.place) inner part.length) x
-    go Nowhere x = let z : ◌≡◌ {A = ℕ} 0 1 = cc in omega arith
-
 -- where the index of an outer id is, there is one, with that id
-pub index_is : (file : List ℕ) (h : Shape) (b : Block) (outer i : ℕ) → index_of file h b outer ≡ At i
+pub index_is : (file : List ℕ) (h : Shape) (b : Block) (outer i : ℕ) → index_of file h b outer ≡ Some i
     → (i < b.count) × (outer_ids file h b i ≡ outer)
 unfolding index_of
 index_is file h b outer i e =
     (position_below (outer_ids file h b) outer b.count i e, position_key (outer_ids file h b) outer b.count i e)
 
 module _ (file : List ℕ) (h : Shape) (b : Block) (outer inner : ℕ) where
-  abbrev answer : Lookup
+  abbrev answer : Option ℕ
   answer = lookup_in file h b outer inner
 
   -- how many values sub-array i has
@@ -168,15 +150,15 @@ module _ (file : List ℕ) (h : Shape) (b : Block) (outer inner : ℕ) where
   long i = end_of file h b i - start_of file h b i
 
   -- a value that the block holds is found, or nothing is
-  found_or_absent : ((bits : ℕ) × ((answer ≡ Found bits) × Holds file h b outer inner bits)) ⊎ (answer ≡ Absent)
+  found_or_absent : ((bits : ℕ) × ((answer ≡ Some bits) × Holds file h b outer inner bits)) ⊎ (answer ≡ None)
   unfolding lookup_in in_part part_at value_at
   found_or_absent = go (index_of file h b outer) refl
     where
-      in-part : (i : ℕ) → index_of file h b outer ≡ At i → (p : Position)
+      in-part : (i : ℕ) → index_of file h b outer ≡ Some i → (p : Option ℕ)
           → position (inner_ids file h b i) inner (long i) ≡ p
-          → ((bits : ℕ) × ((value_at file h b (part_of file h b i) p ≡ Found bits) × Holds file h b outer inner bits))
-          ⊎ (value_at file h b (part_of file h b i) p ≡ Absent)
-      in-part i e (At k) f = inl (
+          → ((bits : ℕ) × ((value_at file h b (part_of file h b i) p ≡ Some bits) × Holds file h b outer inner bits))
+          ⊎ (value_at file h b (part_of file h b i) p ≡ None)
+      in-part i e (Some k) f = inl (
         word_at h.inner file (part_of file h b i) k,
         (
           refl,
@@ -191,19 +173,19 @@ module _ (file : List ℕ) (h : Shape) (b : Block) (outer inner : ℕ) where
           },
         ),
       )
-      in-part i e Nowhere f = inr refl
+      in-part i e None f = inr refl
 
-      go : (p : Position) → index_of file h b outer ≡ p
-          → ((bits : ℕ) × ((in_part file h b inner p ≡ Found bits) × Holds file h b outer inner bits)) ⊎ (in_part file h b inner p ≡ Absent)
-      go (At i) e = in-part i e (position (inner_ids file h b i) inner (long i)) refl
-      go Nowhere e = inr refl
+      go : (p : Option ℕ) → index_of file h b outer ≡ p
+          → ((bits : ℕ) × ((in_part file h b inner p ≡ Some bits) × Holds file h b outer inner bits)) ⊎ (in_part file h b inner p ≡ None)
+      go (Some i) e = in-part i e (position (inner_ids file h b i) inner (long i)) refl
+      go None e = inr refl
 
   module _ (sections : List (List ℕ)) (w : WellFormed file h sections b) where
-    held_found : (bits : ℕ) → Holds file h b outer inner bits → answer ≡ Found bits
+    held_found : (bits : ℕ) → Holds file h b outer inner bits → answer ≡ Some bits
     unfolding lookup_in in_part index_of part_at value_at
     held_found bits k = go w
       where
-        go : WellFormed file h sections b → answer ≡ Found bits
+        go : WellFormed file h sections b → answer ≡ Some bits
         go (inl z) = absurd (omega (arith, z.0, k.index))
         go (inr f) =
             let i = k.i in
@@ -212,23 +194,23 @@ module _ (file : List ℕ) (h : Shape) (b : Block) (outer inner : ℕ) where
               position_at (inner_ids file h b i) inner (long i) (f.order.inner_increase i k.index)
                   k.k k.value k.inner_id,
             )
-            (ap Found k.stored)
+            (ap Some k.stored)
 
     -- in a well-formed block a lookup finds exactly what the block holds
-    pub found_iff : (bits : ℕ) → (lookup_in file h b outer inner ≡ Found bits) ↔ Holds file h b outer inner bits
+    pub found_iff : (bits : ℕ) → (lookup_in file h b outer inner ≡ Some bits) ↔ Holds file h b outer inner bits
     found_iff bits = (λ e. go e found_or_absent, held_found bits)
       where
-        go : answer ≡ Found bits → ((x : ℕ) × ((answer ≡ Found x) × Holds file h b outer inner x)) ⊎ (answer ≡ Absent)
+        go : answer ≡ Some bits → ((x : ℕ) × ((answer ≡ Some x) × Holds file h b outer inner x)) ⊎ (answer ≡ None)
             → Holds file h b outer inner bits
         go e (inl (x, (f, k))) =
-            let q : Found x ≡ Found bits = sym f ∙ e in
+            let q : Some x ≡ Some bits = sym f ∙ e in
             let z : x ≡ bits = cc in
             rw (← z) k
-        go e (inr f) = let q : Absent ≡ Found bits = sym f ∙ e in absurd (let z : ◌≡◌ {A = ℕ} 0 1 = cc in omega arith)
+        go e (inr f) = let q : None ≡ Some bits = sym f ∙ e in absurd (let z : ◌≡◌ {A = ℕ} 0 1 = cc in omega arith)
 
     -- and says absent exactly if the block does not hold the pair, with any bits
-    pub absent_iff : (lookup_in file h b outer inner ≡ Absent) ↔ ((bits : ℕ) → Holds file h b outer inner bits → ⊥)
+    pub absent_iff : (lookup_in file h b outer inner ≡ None) ↔ ((bits : ℕ) → Holds file h b outer inner bits → ⊥)
     absent_iff = (
-      λ e bits k. let q : Absent ≡ Found bits = sym e ∙ held_found bits k in let z : ◌≡◌ {A = ℕ} 0 1 = cc in omega arith,
+      λ e bits k. let q : None ≡ Some bits = sym e ∙ held_found bits k in let z : ◌≡◌ {A = ℕ} 0 1 = cc in omega arith,
       λ none. ⊎_elim (λ k. absurd (none k.0 k.1.1)) (λ e. e) found_or_absent,
     )

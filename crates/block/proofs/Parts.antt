@@ -1,4 +1,5 @@
 -- Sub-arrays of a block: what one pass tests of them, and what a checked block tells of them.
+use Rattle.std.specs.Prelude.{Option, Some}
 use Prim.Native.Nat.{ℕ, ◌+◌, ◌-◌, ◌*◌, ◌≤◌, ◌<◌}
 use mathlib.Core.Bool.{true, false, and-false}
 use mathlib.Core.List.{List}
@@ -8,8 +9,6 @@ use native.Mathlib.Nat.{suc-mul, add-mul, mul-le-mul_right}
 use native.Mathlib.Omega.{arith}
 use borrow.Author.Tests.{le-leb, lt-leb, le-ltb, lt-ltb, eq-eqb, ne_eqb}
 use Rattle.seq.specs.Sequence.{every, rises, Sorted}
-use Rattle.seq.specs.declared.Position.{Position}
-use Rattle.seq.specs.declared.Position.TheVariants.{At}
 use Rattle.seq.proofs.Search.{position_below}
 use Rattle.seq.proofs.Every.{every_not}
 use Rattle.seq.proofs.Rising.{rises_sorted}
@@ -88,7 +87,7 @@ module _ {file : List ℕ} {h : Shape} {b : Block} (v : SoundBlock file h b) whe
   outer_sorted l = (order_facts file h b (v.order l)).outer_increase
 
   -- an index that is found is there
-  pub index_below : (outer i : ℕ) {p : Position} → p ≡ index_of file h b outer → p ≡ At i → i < b.count
+  pub index_below : (outer i : ℕ) {p : Option ℕ} → p ≡ index_of file h b outer → p ≡ Some i → i < b.count
   unfolding index_of
   index_below outer i e f = position_below (outer_ids file h b) outer b.count i (sym e ∙ f)
 

@@ -1,4 +1,5 @@
 -- What the range rule gives: both arrays inside the file; a well-formed block is sound; and what its check answers, step by step.
+use Rattle.std.specs.Prelude.{Err}
 use Prim.Native.Nat.{ℕ, ◌<◌}
 use mathlib.Core.Bool.{true, false}
 use mathlib.Core.List.{List}
@@ -8,7 +9,6 @@ use native.Mathlib.Omega.{arith}
 use borrow.Author.Tests.{eq-eqb, ne_eqb}
 use lib.Dec.{eqb}
 use Rattle.refusal.specs.declared.Refusal.TheVariants as No
-use Rattle.refusal.specs.declared.Check.TheVariants as Check
 use Rattle.refusal.specs.Check.{either, rule, first}
 use Rattle.block.specs.declared.Shape.{Shape}
 use Rattle.block.specs.declared.Block.{Block}
@@ -43,10 +43,10 @@ module _ (file : List ℕ) (h : Shape) (sections : List (List ℕ)) (b : Block) 
   unfolding block_check either
   some_check z = rw (ne_eqb b.count 0 z)
 
-  pub range_check : (b.count ≡ 0 → ⊥) → range_rule file h sections b ≡ false → Check.Refused No.Array ≡ block_check file h sections b
-  unfolding rule first
+  pub range_check : (b.count ≡ 0 → ⊥) → range_rule file h sections b ≡ false → Err No.Array ≡ block_check file h sections b
+  unfolding rule
   range_check z e = sym (some_check z ∙ rw e)
 
   pub order_check : (b.count ≡ 0 → ⊥) → range_rule file h sections b ≡ true → rule (order_rule file h b) No.Order ≡ block_check file h sections b
-  unfolding rule first
+  unfolding rule
   order_check z e = sym (some_check z ∙ rw e)

@@ -1,22 +1,17 @@
 -- Sparse blocks: document 01's "Sparse blocks and totals", once over the widths of their ids. An element of either array is an id of
 -- w bytes and then a word of eight: an index has an outer id and a start, a value an inner id and the bits of an f64.
-use Rattle.std.specs.Prelude.{ℕ, ◌+◌, ◌-◌, ◌*◌, Bool, ◌&&◌, List, [], ◌∷◌, ltb, leb, eqb}
+use Rattle.std.specs.Prelude.{ℕ, ◌+◌, ◌-◌, ◌*◌, Bool, ◌&&◌, List, [], ◌∷◌, ltb, leb, eqb, Err, None, Option, Some, Ok}
 use Rattle.le.specs.Number.{number}
 use Rattle.range.specs.Range.{multiple}
 use Rattle.outside.specs.Outside.{lies}
 use Rattle.refusal.specs.declared.Refusal.TheVariants as No
-use Rattle.refusal.specs.declared.Check.{Check}
-use Rattle.refusal.specs.Check.{either, rule, first}
+use Rattle.refusal.specs.Check.{either, rule, first, Check, Answer}
 use Rattle.refusal.specs.Words.{refused_words}
 use Rattle.open.specs.Format.{profile, cct}
-use Rattle.seq.specs.declared.Position.{Position}
-use Rattle.seq.specs.declared.Position.TheVariants.{At, Nowhere}
 use Rattle.seq.specs.Sequence.{every, rises, position}
 use Rattle.block.specs.declared.Shape.{Shape}
 use Rattle.block.specs.declared.Block.{Block}
 use Rattle.block.specs.declared.Part.{Part}
-use Rattle.block.specs.declared.Lookup.{Lookup}
-use Rattle.block.specs.declared.Lookup.TheVariants.{Found, Absent, Refused}
 
 -- ---- the two files: widths of outer and inner ids, the least inner id, and where the file's header ends
 
@@ -94,23 +89,27 @@ block_check file h sections b =
 
 -- what a well-formed block holds of two ids
 module _ (file : List ℕ) (h : Shape) (b : Block) where
-  unfoldable pub value_at : (at : ℕ) → Position → Lookup
-  value_at at (At k) = Found (word_at h.inner file at k)
-  value_at at Nowhere = Absent
+  unfoldable pub value_at : (at : ℕ) → Option ℕ → Option ℕ
+  value_at at (Some k) = Some (word_at h.inner file at k)
+  value_at at None = None
 
-  unfoldable pub in_part : (inner : ℕ) → Position → Lookup
-  in_part inner (At i) = value_at (part_at file h b i).place (position (id_at h.inner file (part_at file h b i).place) inner (part_at file h b i).length)
-  in_part inner Nowhere = Absent
+  unfoldable pub in_part : (inner : ℕ) → Option ℕ → Option ℕ
+  in_part inner (Some i) = value_at (part_at file h b i).place (position (id_at h.inner file (part_at file h b i).place) inner (part_at file h b i).length)
+  in_part inner None = None
 
   -- where the index of an outer id is
-  unfoldable pub index_of : (outer : ℕ) → Position
+  unfoldable pub index_of : (outer : ℕ) → Option ℕ
   index_of outer = position (outer_ids file h b) outer b.count
 
-  unfoldable pub lookup_in : (outer inner : ℕ) → Lookup
+  unfoldable pub lookup_in : (outer inner : ℕ) → Option ℕ
   lookup_in outer inner = in_part inner (index_of outer)
 
--- an answer in words: 0 and the bits, or 100 and 0, two words for each pair of a batch; or the refusal's number
-unfoldable pub lookup_words : Lookup → List ℕ
-lookup_words (Found bits) = 0 ∷ bits ∷ []
-lookup_words Absent = 100 ∷ 0 ∷ []
-lookup_words (Refused r) = refused_words r
+-- what was found in words, two for each pair of a batch: 0 and the bits, or 100 and 0
+unfoldable pub found_words : Option ℕ → List ℕ
+found_words (Some bits) = 0 ∷ bits ∷ []
+found_words None = 100 ∷ 0 ∷ []
+
+-- an answer in words: these, or the refusal's number
+unfoldable pub lookup_words : Answer (Option ℕ) → List ℕ
+lookup_words (Ok found) = found_words found
+lookup_words (Err r) = refused_words r

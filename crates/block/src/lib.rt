@@ -1,16 +1,14 @@
 // Sparse blocks of profile.db and cct.db: validated in one pass, searched by halving.
 #![tactic(auto)]
 
-ghost use Rattle.std.specs.Prelude.{true, [], ◌∷◌, ◌≡◌, ℕ, ◌+◌, ◌*◌, ◌-◌, ◌≤◌, ◌<◌, length};
+ghost use Rattle.std.specs.Prelude.{true, [], ◌∷◌, ◌≡◌, ℕ, ◌+◌, ◌*◌, ◌-◌, ◌≤◌, ◌<◌, length, Some};
 ghost use Rattle.le.specs.Number.{number};
-ghost use Rattle.seq.specs.declared.Position.TheVariants as Position;
 ghost use Rattle.seq.specs.Sequence.{rises, position, Sorted, Window};
 ghost use Rattle.block.specs.Block.{profile_shape, cct_shape, block_at, id_at, word_at, range_rule, start_of, end_of, order_rule, block_check, index_of, in_part, lookup_in, part_at};
 ghost use Rattle.block.specs.Sound.{IdWidth, Widths, ElementsInside, ArraysInside, SoundBlock, SoundPart};
 ghost use Rattle.block.specs.OnePass.{part_rule};
 
-use refusal::{Check, Refusal};
-use seq::Position;
+use refusal::Refusal;
 
 // A hint that is past every array.
 const NO_HINT: u64 = 0xffff_ffff_ffff_ffff;
@@ -38,14 +36,6 @@ pub struct Block {
 pub struct Part {
     pub place: u64,
     pub length: u64,
-}
-
-// A value's bits, or that there is none.
-#[derive(Clone, Copy)]
-pub enum Lookup {
-    Found(u64),
-    Absent,
-    Refused(refusal::Refusal),
 }
 
 pub fn profile_shape() -> Shape
@@ -146,68 +136,15 @@ pub fn word_at(file: &[u8], at: u64, w: u64, n: u64, k: u64) -> u64
     le::load_u64(file, element(file, at, w, n, k) + w as usize)
 }
 
-// Whether each of the four ids after id k is above the one before it: one branch for the four.
-fn four_rise(file: &[u8], at: u64, w: u64, n: u64, k: u64) -> bool
-    requires elements_inside { ElementsInside file.now at w n }
-    requires k_bound { k + 4 < n }
-    ensures { result ≡ true → (least : ℕ) → rises least 1 (id_at w file.now at) (k + 1) ≡ true → rises least 1 (id_at w file.now at) (k + 5) ≡ true }
-{
-    let before = id_at(file, at, w, n, k);
-    let one = id_at(file, at, w, n, k + 1);
-    let two = id_at(file, at, w, n, k + 2);
-    let three = id_at(file, at, w, n, k + 3);
-    let four = id_at(file, at, w, n, k + 4);
-    ((before < one) & (one < two)) & ((two < three) & (three < four))
-}
-
-// Id k is the last of n that is known to rise: as far as steps of four tell.
-fn rise_by_fours(file: &[u8], at: u64, w: u64, n: u64, least: u64) -> u64
-    requires elements_inside { ElementsInside file.now at w n }
-    requires n_nonzero { 0 < n }
-    requires least_bound { least ≤ id_at w file.now at 0 }
-    ensures upper_bound { result < n }
-    ensures result_value { rises least 1 (id_at w file.now at) (result + 1) ≡ true }
-{
-    let mut k = 0;
-    while 4 < n - k {
-        if !four_rise(file, at, w, n, k) {
-            return k;
-        }
-        k += 4;
-    }
-    k
-}
-
-// Whether n ids are at least `least` and increase.
-fn rise(file: &[u8], at: u64, w: u64, n: u64, least: u64) -> bool
-    requires { ElementsInside file.now at w n }
-    ensures { result ≡ rises least 1 (id_at w file.now at) n }
-{
-    if n == 0 {
-        return true;
-    }
-    if id_at(file, at, w, n, 0) < least {
-        return false;
-    }
-    let mut k = rise_by_fours(file, at, w, n, least) + 1;
-    while k < n {
-        if id_at(file, at, w, n, k) <= id_at(file, at, w, n, k - 1) {
-            return false;
-        }
-        k += 1;
-    }
-    true
-}
-
-// The same. Each width is a loop of its own, whose stride is a constant.
+// Whether n ids are at least `least` and increase. Each width is a loop of its own, whose stride is a constant.
 fn ids_rise(file: &[u8], at: u64, w: u64, n: u64, least: u64) -> bool
     requires { ElementsInside file.now at w n }
     ensures { result ≡ rises least 1 (id_at w file.now at) n }
 {
     if w == 2 {
-        return rise(file, at, 2, n, least);
+        return seq::rises(|k| id_at(file, at, 2, n, k), n, least, 1);
     }
-    rise(file, at, 4, n, least)
+    seq::rises(|k| id_at(file, at, 4, n, k), n, least, 1)
 }
 
 // Where sub-array i starts, and where it ends.
@@ -257,8 +194,7 @@ fn order_rule(file: &[u8], h: Shape, b: Block) -> bool
     let n = b.count;
     let mut low = 0;
     let mut start = 0;
-    let mut i = 0;
-    while i < n {
+    for i in 0..n {
         let id = id_at(file, b.indices, h.outer, n, i);
         if id < low {
             return false;
@@ -269,13 +205,12 @@ fn order_rule(file: &[u8], h: Shape, b: Block) -> bool
         }
         low = id + 1;
         start = end;
-        i += 1;
     }
     true
 }
 
 // 7, then 11. Where the file has one section, the other has size 0.
-pub fn check(file: &[u8], h: Shape, one: [u64; 2], other: [u64; 2], b: Block) -> Check
+pub fn check(file: &[u8], h: Shape, one: [u64; 2], other: [u64; 2], b: Block) -> Result<(), Refusal>
     requires { Widths h }
     ensures { result ≡ block_check file.now h (one ∷ other ∷ []) b }
 {
@@ -283,7 +218,7 @@ pub fn check(file: &[u8], h: Shape, one: [u64; 2], other: [u64; 2], b: Block) ->
         return refusal::rule(b.total == 0, Refusal::Array);
     }
     if !range_rule(file, h, one, other, b) {
-        return Check::Refused(Refusal::Array);
+        return Err(Refusal::Array);
     }
     refusal::rule(order_rule(file, h, b), Refusal::Order)
 }
@@ -298,7 +233,7 @@ fn skipped(id: u64, key: u64, half: u64) -> u64
 }
 
 // Where a key is among n ids: if anywhere, among `count` from a place on, which are halved until one is left.
-fn halve(file: &[u8], at: u64, w: u64, n: u64, key: u64, from: u64, count: u64) -> Position
+fn halve(file: &[u8], at: u64, w: u64, n: u64, key: u64, from: u64, count: u64) -> Option<u64>
     requires elements_inside { ElementsInside file.now at w n }
     requires sorted { Sorted (id_at w file.now at) n }
     requires key_bound { key < 4294967296 }
@@ -314,14 +249,14 @@ fn halve(file: &[u8], at: u64, w: u64, n: u64, key: u64, from: u64, count: u64) 
         left -= half;
     }
     if id_at(file, at, w, n, low) == key {
-        Position::At(low)
+        Some(low)
     } else {
-        Position::Nowhere
+        None
     }
 }
 
 // The same. Each width is a loop of its own, whose stride is a constant.
-fn narrow(file: &[u8], at: u64, w: u64, n: u64, key: u64, from: u64, count: u64) -> Position
+fn narrow(file: &[u8], at: u64, w: u64, n: u64, key: u64, from: u64, count: u64) -> Option<u64>
     requires elements_inside { ElementsInside file.now at w n }
     requires sorted { Sorted (id_at w file.now at) n }
     requires key_bound { key < 4294967296 }
@@ -363,36 +298,36 @@ fn is_near(file: &[u8], at: u64, w: u64, n: u64, key: u64, hint: u64) -> bool
 }
 
 // Where a key is among n ids. The hint, where it may be, can be any number, and changes only how long it takes.
-fn search(file: &[u8], at: u64, w: u64, n: u64, key: u64, hint: u64) -> Position
+fn search(file: &[u8], at: u64, w: u64, n: u64, key: u64, hint: u64) -> Option<u64>
     requires elements_inside { ElementsInside file.now at w n }
     requires sorted { Sorted (id_at w file.now at) n }
     ensures { result ≡ position (id_at w file.now at) key n }
 {
     if is_at(file, at, w, n, key, hint) {
-        return Position::At(hint);
+        return Some(hint);
     }
     if is_near(file, at, w, n, key, hint) {
         return narrow(file, at, w, n, key, hint, 8);
     }
     if (n == 0) | (0xffff_ffff < key) {
-        return Position::Nowhere;
+        return None;
     }
     narrow(file, at, w, n, key, 0, n)
 }
 
 // Where the index of an outer id is, with a hint.
-fn index_near(file: &[u8], h: Shape, b: Block, outer: u64, hint: u64) -> Position
+fn index_near(file: &[u8], h: Shape, b: Block, outer: u64, hint: u64) -> Option<u64>
     requires { SoundBlock file.now h b }
     ensures { result ≡ index_of file.now h b outer }
 {
     if b.count == 0 {
-        return Position::Nowhere;
+        return None;
     }
     search(file, b.indices, h.outer, b.count, outer, hint)
 }
 
 // The same without one.
-pub fn index_of(file: &[u8], h: Shape, b: Block, outer: u64) -> Position
+pub fn index_of(file: &[u8], h: Shape, b: Block, outer: u64) -> Option<u64>
     requires { SoundBlock file.now h b }
     ensures { result ≡ index_of file.now h b outer }
 {
@@ -413,17 +348,15 @@ pub fn part_at(file: &[u8], h: Shape, b: Block, i: u64) -> Part
 }
 
 // What sub-array i holds of an inner id. The hint is set to where it was.
-fn find_in(file: &[u8], h: Shape, b: Block, i: u64, inner: u64, hint: &mut u64) -> Lookup
+fn find_in(file: &[u8], h: Shape, b: Block, i: u64, inner: u64, hint: &mut u64) -> Option<u64>
     requires sound_block { SoundBlock file.now h b }
     requires i_lt_count { i < b.count }
-    ensures { result ≡ in_part file.now h b inner (Position.At i) }
+    ensures { result ≡ in_part file.now h b inner (Some i) }
 {
     let part = part_at(file, h, b, i);
-    let Position::At(k) = search(file, part.place, h.inner, part.length, inner, *hint) else {
-        return Lookup::Absent;
-    };
+    let k = search(file, part.place, h.inner, part.length, inner, *hint)?;
     *hint = k;
-    Lookup::Found(word_at(file, part.place, h.inner, part.length, k))
+    Some(word_at(file, part.place, h.inner, part.length, k))
 }
 
 // What a checked block holds of two ids. The hints, where the index and the value may be, can be any numbers; they are set to where
@@ -436,13 +369,11 @@ pub fn find_near(
     inner: u64,
     index: &mut u64,
     value: &mut u64,
-) -> Lookup
+) -> Option<u64>
     requires { SoundBlock file.now h b }
     ensures { result ≡ lookup_in file.now h b outer inner }
 {
-    let Position::At(i) = index_near(file, h, b, outer, *index) else {
-        return Lookup::Absent;
-    };
+    let i = index_near(file, h, b, outer, *index)?;
     if i != *index {
         *value = NO_HINT;
     }
@@ -451,7 +382,7 @@ pub fn find_near(
 }
 
 // The same of one question alone.
-pub fn find(file: &[u8], h: Shape, b: Block, outer: u64, inner: u64) -> Lookup
+pub fn find(file: &[u8], h: Shape, b: Block, outer: u64, inner: u64) -> Option<u64>
     requires { SoundBlock file.now h b }
     ensures { result ≡ lookup_in file.now h b outer inner }
 {

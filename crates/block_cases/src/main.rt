@@ -2,117 +2,115 @@
 // (profile, cct or totals), the file's name, and three numbers: profile, context and metric; or context, metric and one unused.
 #![tactic(auto)]
 
-use block::Lookup;
+use refusal::Refusal;
+use script::Parts;
 use std::io;
 use std::rt::Files;
 use total::Totals;
 
-fn spaced(rt: &impl Print, n: u64) -> io::Result<()> {
-    print!(rt; " {n}")
+// What a line asks of a file.
+#[derive(Clone, Copy)]
+enum Question {
+    Profile {
+        profile: u64,
+        context: u64,
+        metric: u64,
+    },
+    Cct {
+        profile: u64,
+        context: u64,
+        metric: u64,
+    },
+    Totals {
+        context: u64,
+        metric: u64,
+    },
 }
 
-fn refused(rt: &impl Print, r: refusal::Refusal) -> io::Result<()> {
-    print!(rt; " refused")?;
-    spaced(rt, refusal::number(r))
-}
-
-fn show_lookup(rt: &impl Print, answer: Lookup) -> io::Result<()> {
-    match answer {
-        Lookup::Found(bits) => {
-            print!(rt; " found")?;
-            spaced(rt, bits)
+impl Question {
+    // By the first letter of the kind; none of a line with no kind.
+    fn read(kind: &[u8], numbers: &mut Parts) -> Option<Question> {
+        match *kind.first()? {
+            b'p' => Some(Question::Profile {
+                profile: numbers.number(),
+                context: numbers.number(),
+                metric: numbers.number(),
+            }),
+            b'c' => Some(Question::Cct {
+                profile: numbers.number(),
+                context: numbers.number(),
+                metric: numbers.number(),
+            }),
+            _ => Some(Question::Totals {
+                context: numbers.number(),
+                metric: numbers.number(),
+            }),
         }
-        Lookup::Absent => print!(rt; " absent"),
-        Lookup::Refused(r) => refused(rt, r),
     }
-}
 
-fn show_totals(rt: &impl Print, answer: Totals) -> io::Result<()> {
-    match answer {
-        Totals::Of {
-            count,
-            least_of,
-            least,
-            greatest_of,
-            greatest,
-            sum,
-        } => {
-            print!(rt; " totals")?;
-            spaced(rt, count)?;
-            spaced(rt, least_of)?;
-            spaced(rt, least)?;
-            spaced(rt, greatest_of)?;
-            spaced(rt, greatest)?;
-            spaced(rt, sum)
+    fn ask(self, rt: &impl Print, file: &[u8]) -> io::Result<()> {
+        match self {
+            Question::Profile {
+                profile,
+                context,
+                metric,
+            } => show_lookup(rt, lookup::profile_lookup(file, profile, context, metric)),
+            Question::Cct {
+                profile,
+                context,
+                metric,
+            } => show_lookup(rt, lookup::cct_lookup(file, profile, context, metric)),
+            Question::Totals { context, metric } => {
+                show_totals(rt, cct::totals(file, context, metric))
+            }
         }
-        Totals::Absent => print!(rt; " absent"),
-        Totals::Refused(r) => refused(rt, r),
     }
 }
 
-// By the first letter of the kind.
-fn ask(rt: &impl Print, kind: u8, file: &[u8], a: u64, b: u64, c: u64) -> io::Result<()> {
-    if kind == b'p' {
-        return show_lookup(rt, lookup::profile_lookup(file, a, b, c));
+fn show_lookup(rt: &impl Print, answer: Result<Option<u64>, Refusal>) -> io::Result<()> {
+    match answer {
+        Ok(Some(bits)) => print!(rt; " found {bits}"),
+        Ok(None) => print!(rt; " absent"),
+        Err(r) => print!(rt; " refused {}", u32::from(r)),
     }
-    if kind == b'c' {
-        return show_lookup(rt, lookup::cct_lookup(file, a, b, c));
-    }
-    show_totals(rt, cct::totals(file, a, b))
 }
 
-fn case(
-    rt: &(impl Files + Print + Eprint),
-    kind: u8,
-    name: &[u8],
-    a: u64,
-    b: u64,
-    c: u64,
-) -> io::Result<()> {
-    let mut buffer = [0u8; 32769];
-    let Some(n) = script::read_file(rt, name, &mut buffer)? else {
-        return Ok(());
-    };
-    ask(rt, kind, &buffer[..n], a, b, c)
+fn show_totals(rt: &impl Print, answer: Result<Option<Totals>, Refusal>) -> io::Result<()> {
+    match answer {
+        Ok(Some(t)) => {
+            print!(rt;
+                " totals {} {} {} {} {} {}",
+                t.count, t.least_of, t.least, t.greatest_of, t.greatest, t.sum
+            )
+        }
+        Ok(None) => print!(rt; " absent"),
+        Err(r) => print!(rt; " refused {}", u32::from(r)),
+    }
+}
+
+fn case(rt: &(impl Files + Print + Eprint), name: &[u8], question: Question) -> io::Result<()> {
+    let mut buffer = [0; 32769];
+    match script::read_file(rt, name, &mut buffer)? {
+        Some(file) => question.ask(rt, file),
+        None => Ok(()),
+    }
 }
 
 fn row(rt: &(impl Files + Print + Eprint), line: &[u8]) -> io::Result<()> {
     rt.write_all(line)?;
-    let kind = script::word(line, 0);
-    let at = kind.len() + 1;
-    let name = script::word(line, at);
-    let first = at + name.len() + 1;
-    let a = script::word(line, first);
-    let second = first + a.len() + 1;
-    let b = script::word(line, second);
-    let c = script::word(line, second + b.len() + 1);
-    if 0 < kind.len() {
-        case(
-            rt,
-            kind[0],
-            name,
-            script::decimal(a),
-            script::decimal(b),
-            script::decimal(c),
-        )?;
+    let mut words = script::words(line);
+    let kind = words.next_or_empty();
+    let name = words.next_or_empty();
+    if let Some(question) = Question::read(kind, &mut words) {
+        case(rt, name, question)?;
     }
     println!(rt)
 }
 
-fn each_line(rt: &(impl Files + Print + Eprint), list: &[u8]) -> io::Result<()> {
-    let mut at = 0;
-    while at < list.len() {
-        let line = script::line(list, at);
-        row(rt, line)?;
-        at = at + line.len() + 1;
-    }
-    Ok(())
-}
-
 fn main(rt: HostRuntime) -> io::Result<()> {
-    let mut buffer = [0u8; 65536];
-    let Some(n) = script::read_file(&rt, b"list", &mut buffer)? else {
+    let mut buffer = [0; 65536];
+    let Some(list) = script::read_file(&rt, b"list", &mut buffer)? else {
         return Ok(());
     };
-    each_line(&rt, &buffer[..n])
+    script::lines(list).try_for_each(|line| row(&rt, line))
 }

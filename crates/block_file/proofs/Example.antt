@@ -1,4 +1,5 @@
 -- A written block in both files, by its length and computed: in profile.db odd numbers of values are padded, in cct.db odd numbers of indices.
+use Rattle.std.specs.Prelude.{Some, None}
 use Prim.Native.Nat.{◌+◌, ◌*◌, ◌%◌}
 use mathlib.Core.List.{[], ◌∷◌}
 use mathlib.Core.Path.{◌≡◌, refl}
@@ -9,7 +10,6 @@ use Rattle.layout.specs.Bytes.{bytes, fields, join}
 use Rattle.refusal.specs.Check.{either}
 use Rattle.open.specs.Opening.{place_for}
 use Rattle.seq.specs.Sequence.{position}
-use Rattle.block.specs.declared.Lookup.TheVariants.{Found, Absent}
 use Rattle.block.specs.Block.{profile_shape, cct_shape, id_at, word_at, start_of, end_of, part_of, part_at, value_at, in_part, index_of, lookup_in}
 use Rattle.layout.specs.Many.{many, to_four, zeros}
 use Rattle.block_file.specs.Pairs.{Pairs, leads, groups, groups_of, value_element, index_element, written, indices_from, block_of}
@@ -40,7 +40,7 @@ unfolding written many fields bytes join value_element index_element zeros to_fo
 bytes-of-B = refl
 
 -- in a file of its own, at place 0, as a block of cct.db
-pub lookups_in_cct : (lookup_in (written cct_shape block_b) cct_shape (block_of cct_shape block_b 0) 5 4 ≡ Found 0x4008000000000000)
-    × (lookup_in (written cct_shape block_b) cct_shape (block_of cct_shape block_b 0) 9 4 ≡ Absent)
+pub lookups_in_cct : (lookup_in (written cct_shape block_b) cct_shape (block_of cct_shape block_b 0) 5 4 ≡ Some 0x4008000000000000)
+    × (lookup_in (written cct_shape block_b) cct_shape (block_of cct_shape block_b 0) 9 4 ≡ None)
 unfolding written many fields bytes join value_element index_element zeros to_four leads groups either block_of indices_from place_for lookup_in index_of in_part value_at part_at part_of start_of end_of id_at word_at position number
 lookups_in_cct = (refl, refl)

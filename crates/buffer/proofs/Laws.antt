@@ -1,11 +1,14 @@
 -- Words written one after the other, without a condition on their range.
 use Prim.Native.Nat.{ℕ, suc, ◌+◌, ◌≤◌, ◌<◌}
-use mathlib.Core.List.{List, [], ◌∷◌, ◌++◌}
+use mathlib.Core.List.{List, [], ◌∷◌, ◌++◌, append_assoc}
 use mathlib.Core.Path.{◌≡◌, refl, sym, ap, ◌∙◌}
 use native.Mathlib.Nat.{add-zero, not-suc-le-zero, le_of_suc-le-suc}
 use native.Mathlib.Omega.{arith}
 use lib.ListN.{length, set, take, drop}
 use lib.Seq.{sets, length-sets, sets-eq, set-set, set_comm, take-set-le, drop-set-lt}
+use borrow.Rule.Slice.PartMut.{put_mid}
+use Rattle.std.proofs.lemmas.Slice.{put_mid-paste}
+use Rattle.std.proofs.lemmas.List.Edits.{paste_all}
 use Rattle.buffer.specs.Over.{over}
 
 pub over_none : (out : List ℕ) (at : ℕ) → over out at [] ≡ out
@@ -26,18 +29,6 @@ pub over_one : (out : List ℕ) (at w : ℕ) → over out at (w ∷ []) ≡ set 
 unfolding over
 over_one out at w = refl
 
-pub over_two : (out : List ℕ) (at v w : ℕ) → over out at (v ∷ w ∷ []) ≡ set (set out at v) (at + 1) w
-unfolding over
-over_two out at v w =
-    let e : at + 1 ≡ suc at = omega arith in
-    rw e
-
-pub over_next : (out : List ℕ) (at k w : ℕ) (rest : List ℕ) → over out (at + k) (w ∷ rest) ≡ over (set out (at + k) w) (at + (k + 1)) rest
-unfolding over
-over_next out at k w rest =
-    let e : at + (k + 1) ≡ suc (at + k) = omega arith in
-    rw e
-
 pub length_over : (out : List ℕ) (at : ℕ) (x : List ℕ) → length (over out at x) ≡ length out
 unfolding over
 length_over out at x = length-sets out at x
@@ -46,6 +37,11 @@ length_over out at x = length-sets out at x
 pub over_eq : (out : List ℕ) (at : ℕ) (x : List ℕ) → at + length x ≤ length out → over out at x ≡ take at out ++ x ++ drop (at + length x) out
 unfolding over
 over_eq out at x l = sets-eq x out at l
+
+-- a part that holds some words now
+pub over_part : (out : List ℕ) (at size : ℕ) (x : List ℕ) {part : List ℕ} → part ≡ x → size ≡ length x → at + length x ≤ length out → put_mid at size out part ≡ over out at x
+over_part out at size x e f l =
+    rw (over_eq out at x l, append_assoc) (put_mid-paste at size out _ x (length x) e (sym f) refl ∙ paste_all out at x _ refl)
 
 -- ---- what stands elsewhere
 

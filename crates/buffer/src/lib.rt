@@ -8,11 +8,7 @@ ghost use Rattle.buffer.specs.Over.{over};
 pub fn clear(out: &mut [u64])
     ensures { out.new ≡ replicate (length out.old) 0 }
 {
-    let mut i = 0;
-    while i < out.len() {
-        out[i] = 0;
-        i += 1;
-    }
+    out.fill(0);
 }
 
 // Some words from a place on.
@@ -20,9 +16,5 @@ pub fn store(out: &mut [u64], at: usize, words: &[u64])
     requires { at + length words.now ≤ length out.old }
     ensures { out.new ≡ over out.old at words.now }
 {
-    let mut k: usize = 0;
-    while k < words.len() {
-        out[at + k] = words[k];
-        k += 1;
-    }
+    out[at..at + words.len()].copy_from_slice(words);
 }

@@ -1,12 +1,13 @@
 -- The cases that document 01 marks P, in one list, computed through the definitions that the promises cite.
+use Rattle.refusal.specs.Check.{on_answer}
 use Prim.Native.Nat.{ℕ}
 use mathlib.Core.List.{List, [], ◌∷◌}
 use mathlib.Core.Path.{◌≡◌, refl}
-use Rattle.array.specs.Element.{element_at, on_element}
+use Rattle.array.specs.Element.{element_at}
 use Rattle.seq.specs.Sequence.{every, floor, rises, position}
 use Rattle.outside.specs.Outside.{apart, apart_all, lies}
-use Rattle.block.specs.Block.{block_at, id_at, word_at, range_rule, start_of, end_of, part_of, part_at, order_rule, block_check, value_at, in_part, index_of, lookup_in, lookup_words}
-use Rattle.lookup.specs.Lookup.{checked_block, checked_at, on_checked, profile_block, profile_lookup}
+use Rattle.block.specs.Block.{block_at, id_at, word_at, range_rule, start_of, end_of, part_of, part_at, order_rule, block_check, value_at, in_part, index_of, lookup_in, lookup_words, found_words}
+use Rattle.lookup.specs.Lookup.{checked_block, checked_at, profile_block, profile_lookup}
 use Rattle.cases.specs.Walks.{walked}
 use Rattle.cases.specs.W.{parts, w, built}
 use Rattle.cases.specs.B.{three, five, b}
@@ -51,5 +52,5 @@ pub cases : ◌≡◌ {A = List (List ℕ)}
     ∷ (11 ∷ [])
     ∷ (11 ∷ [])
     ∷ [])
-unfolding w walked flex_file b element_at on_element every floor rises position block_at id_at word_at apart apart_all lies range_rule start_of end_of part_of part_at order_rule block_check value_at in_part index_of lookup_in lookup_words checked_block checked_at on_checked profile_block profile_lookup
+unfolding w walked flex_file b element_at on_answer every floor rises position block_at id_at word_at apart apart_all lies range_rule start_of end_of part_of part_at order_rule block_check value_at in_part index_of lookup_in lookup_words found_words checked_block checked_at profile_block profile_lookup
 cases = refl

@@ -1,7 +1,7 @@
 -- What a walk says and leaves, in words. To unfold one of these is to unfold all that computes it: each case names it alone, with its file.
 use Rattle.std.specs.Prelude.{ℕ, Bool, false, List, [], ◌∷◌, replicate}
 use Rattle.le.specs.Number.{number}
-use Rattle.refusal.specs.Check.{either, rule, first, if_passed}
+use Rattle.refusal.specs.Check.{either, rule, on_answer}
 use Rattle.buffer.specs.Over.{over}
 use Rattle.layout.specs.Bytes.{bytes, fields}
 use Rattle.layout.specs.Stands.{starts, stands}
@@ -18,7 +18,7 @@ use Rattle.traversal.specs.Walk.{truncate, walk_check, trail_from, walk_of, mark
 
 -- the answer: 0 whole, 101 cut, or the refusal's number; then the number listed
 unfoldable pub answer_to : Asked → List ℕ
-unfolding number bytes fields starts stands rule first if_passed either place_for pair_at pairs_from pairs section_rule stride_rule array_rule contexts_rule field number_at stride_rules content_rule header_rule front_rules in_order section_check header_check opening_with opening on_opened linked_below linked array_of bit presence is_present how_many before place words extent flex_at context_rule link_rule links_rule children_rule targets_of entry_at seen slot_check visit_check enter visit bind turn siblings level from_roots traversal well_formed numbers_at decode is_named path_in same_path path_index skipped is_passed after_mark from_mark walk_check trail_from truncate walk_of walked_of walked_words
+unfolding number bytes fields starts stands rule on_answer either place_for pair_at pairs_from pairs section_rule stride_rule array_rule contexts_rule field number_at stride_rules content_rule header_rule front_rules in_order section_check header_check opening_with opening on_opened linked_below linked array_of bit presence is_present how_many before place words extent flex_at context_rule link_rule links_rule children_rule targets_of entry_at seen slot_check visit_check enter visit bind turn siblings level from_roots traversal well_formed numbers_at decode is_named path_in same_path path_index skipped is_passed after_mark from_mark walk_check trail_from truncate walk_of walked_of walked_words
 answer_to a = walked_words (walked_of (walk_of a))
 
 -- without a mark, by the lengths of the listing and the table

@@ -6,29 +6,26 @@ ghost use Rattle.block.specs.Sound.{SoundBlock, SoundPart};
 ghost use Rattle.cct.specs.Totals.{part_totals, totals_in, cct_totals};
 
 use block::{Block, Part, Shape};
-use lookup::Checked;
 use refusal::Refusal;
-use seq::Position;
 use total::Totals;
 
 // Of the values of a sub-array, in stored order. An id is read only for a new least or greatest.
-fn part_totals(file: &[u8], h: Shape, p: Part) -> Totals
+fn part_totals(file: &[u8], h: Shape, p: Part) -> Result<Option<Totals>, Refusal>
     requires { SoundPart file.now h p }
     ensures { result ≡ part_totals file.now h p }
 {
     let first = block::word_at(file, p.place, h.inner, p.length, 0);
     if !float::is_finite(first) {
-        return Totals::Refused(Refusal::NotFinite);
+        return Err(Refusal::NotFinite);
     }
     let mut t = total::start(block::id_at(file, p.place, h.inner, p.length, 0), first);
     // the least and the greatest as floats too: only the value compared with them is converted
     let mut low = f64::from_bits(first);
     let mut high = low;
-    let mut k = 1;
-    while k < p.length {
+    for k in 1..p.length {
         let bits = block::word_at(file, p.place, h.inner, p.length, k);
         if !float::is_finite(bits) {
-            return Totals::Refused(Refusal::NotFinite);
+            return Err(Refusal::NotFinite);
         }
         let x = f64::from_bits(bits);
         let above = high < x;
@@ -41,32 +38,26 @@ fn part_totals(file: &[u8], h: Shape, p: Part) -> Totals
         } else {
             t = total::add(t, bits);
         }
-        k += 1;
     }
-    total::finish(p.length, t)
+    Ok(Some(total::finish(p.length, t)))
 }
 
 // Of an outer id of a checked block.
-fn totals_in(file: &[u8], h: Shape, b: Block, outer: u64) -> Totals
+fn totals_in(file: &[u8], h: Shape, b: Block, outer: u64) -> Result<Option<Totals>, Refusal>
     requires { SoundBlock file.now h b }
     ensures { result ≡ totals_in file.now h b outer }
 {
-    let Position::At(i) = block::index_of(file, h, b, outer) else {
-        return Totals::Absent;
+    let Some(i) = block::index_of(file, h, b, outer) else {
+        return Ok(None);
     };
     part_totals(file, h, block::part_at(file, h, b, i))
 }
 
 // Over one context and metric.
-pub fn totals(file: &[u8], context: u64, metric: u64) -> Totals
+pub fn totals(file: &[u8], context: u64, metric: u64) -> Result<Option<Totals>, Refusal>
     ensures { result ≡ cct_totals file.now context metric }
 {
-    let checked = lookup::cct_block(file, context);
-    match checked {
-        Checked::Valid(b) => {
-            let h = block::cct_shape();
-            totals_in(file, h, b, metric)
-        }
-        Checked::Refused(r) => Totals::Refused(r),
-    }
+    let b = lookup::cct_block(file, context)?;
+    let h = block::cct_shape();
+    totals_in(file, h, b, metric)
 }

@@ -7,13 +7,7 @@ ghost use Rattle.array.specs.Stored.{array_of};
 ghost use Rattle.count.specs.Count.{count_of};
 
 use open::INFOS;
-use refusal::Check;
-
-#[derive(Clone, Copy)]
-pub enum Count {
-    Of(u64),
-    Refused(refusal::Refusal),
-}
+use refusal::Refusal;
 
 // Elements of the array whose section header stands at a place.
 fn elements(file: &[u8], at: u64) -> u64
@@ -24,37 +18,25 @@ fn elements(file: &[u8], at: u64) -> u64
 }
 
 // Profiles of profile.db.
-pub fn profiles(file: &[u8]) -> Count
+pub fn profiles(file: &[u8]) -> Result<u64, Refusal>
     ensures { result ≡ count_of profile file.now }
 {
-    let sections = open::profile_sections(file);
-    let check = open::check_profile(file, sections);
-    match check {
-        Check::Passed => Count::Of(elements(file, sections[INFOS][0])),
-        Check::Refused(r) => Count::Refused(r),
-    }
+    let sections = open::open_profile(file)?;
+    Ok(elements(file, sections[INFOS][0]))
 }
 
 // Contexts of cct.db.
-pub fn contexts(file: &[u8]) -> Count
+pub fn contexts(file: &[u8]) -> Result<u64, Refusal>
     ensures { result ≡ count_of cct file.now }
 {
-    let sections = open::single_section(file);
-    let check = open::check_cct(file, sections);
-    match check {
-        Check::Passed => Count::Of(elements(file, sections[INFOS][0])),
-        Check::Refused(r) => Count::Refused(r),
-    }
+    let sections = open::open_cct(file)?;
+    Ok(elements(file, sections[INFOS][0]))
 }
 
 // Lines of trace.db.
-pub fn lines(file: &[u8]) -> Count
+pub fn lines(file: &[u8]) -> Result<u64, Refusal>
     ensures { result ≡ count_of trace file.now }
 {
-    let sections = open::single_section(file);
-    let check = open::check_trace(file, sections);
-    match check {
-        Check::Passed => Count::Of(elements(file, sections[INFOS][0])),
-        Check::Refused(r) => Count::Refused(r),
-    }
+    let sections = open::open_trace(file)?;
+    Ok(elements(file, sections[INFOS][0]))
 }

@@ -1,4 +1,6 @@
 -- A search over the chunks: the count for an offset is that among the chunks which are left, at every turn.
+use Rattle.std.specs.Prelude.{Some, None}
+use Rattle.refusal.specs.Check.{Passed}
 use Prim.Native.Nat.{ℕ, ◌+◌, ◌-◌, ◌*◌, ◌/◌, ◌%◌, ◌≤◌, ◌<◌}
 use mathlib.Core.Bool.{Bool, true, false, ◌&&◌, true≢false}
 use mathlib.Core.List.{List, ◌∷◌}
@@ -7,11 +9,9 @@ use native.Mathlib.Omega.{arith}
 use borrow.Author.Tests.{ltb-true, lt-ltb, eqb-true, eq-eqb}
 use lib.Dec.{ltb, eqb}
 use Rattle.le.specs.Number.{number}
-use Rattle.refusal.specs.declared.Check.TheVariants.{Passed}
 use Rattle.range.proofs.Tests.{both}
 use Rattle.seq.specs.Lists.{Ordered}
 use Rattle.seq.proofs.Lists.{all_imp, in_left}
-use Rattle.dcpi.specs.declared.SampleCount.TheVariants.{Found, Absent}
 use Rattle.dcpi.specs.Samples.{spacing, totals_at, Chunk, chunk_at, chunk_end, last_offset, chunks, OffsetCount, counts_of, counts_of_all, sample_counts}
 use Rattle.dcpi.specs.Check.{chunks_check}
 use Rattle.dcpi.specs.Answers.{count_for}
@@ -56,7 +56,7 @@ module _ (s : List ℕ) where
     finding_none e = record { kept = kept_start e; left = rw (chunks_all s) }
 
     module _ {p : ℕ} (h : Finding p) where
-      pub finding_all : totals_at s ≤ p → Absent ≡ count_for offset (sample_counts s)
+      pub finding_all : totals_at s ≤ p → None ≡ count_for offset (sample_counts s)
       unfolding counts_of_all count_for
       finding_all l = rw (chunks_none s p l) at h.left
 
@@ -70,13 +70,13 @@ module _ (s : List ℕ) where
         here : count_for offset (counts_of_all s (c ∷ cs)) ≡ count_for offset (sample_counts s)
         here = rw (chunks_more s p l) at h.left
 
-        pub finding_before : offset < c.offset → Absent ≡ count_for offset (sample_counts s)
+        pub finding_before : offset < c.offset → None ≡ count_for offset (sample_counts s)
         finding_before b =
             sym (for_none offset (counts_of_all s (chunks_on s p))
             (all_imp (λ x m q. omega arith) (counts_of_all s (chunks_on s p)) (from_least s c.offset (chunks_on s p) (from_here h.kept l))))
             ∙ h.left
 
-        here_is : (i : ℕ) → i < c.size → offset ≡ c.offset + i * spacing → Found (number 4 s (p + 8 + i * 4)) ≡ count_for offset (sample_counts s)
+        here_is : (i : ℕ) → i < c.size → offset ≡ c.offset + i * spacing → Some (number 4 s (p + 8 + i * 4)) ≡ count_for offset (sample_counts s)
         unfolding counts_of_all
         here_is i b e =
             let o : Ordered RisingOffsets (counts_of_all s (c ∷ cs)) = rw (chunks_more s p l) at (counts_rise s h.kept.least (chunks_on s p) h.kept.passed) in
@@ -111,7 +111,7 @@ module _ (s : List ℕ) where
           pub hit_inside : hit ≡ true → p + 8 + (offset - first) / spacing * 4 + 4 ≤ totals_at s
           hit_inside e = omega (arith, below_size e, (kept_here h.kept l).fits)
 
-          pub finding_here : hit ≡ true → Found (number 4 s (p + 8 + (offset - first) / spacing * 4)) ≡ count_for offset (sample_counts s)
+          pub finding_here : hit ≡ true → Some (number 4 s (p + 8 + (offset - first) / spacing * 4)) ≡ count_for offset (sample_counts s)
           finding_here e =
               let r : (offset - first) % spacing ≡ 0 = eqb-true ((offset - first) % spacing) 0 ((both below aligned).0 e).1 in
               here_is ((offset - first) / spacing) (omega (arith, below_size e)) (omega arith)

@@ -1,4 +1,5 @@
 -- The counts of chunks that keep the rules rise by their offsets, so that at most one is for an offset.
+use Rattle.std.specs.Prelude.{Some, None}
 use Prim.Native.Nat.{ℕ, zero, suc, ◌+◌, ◌*◌, ◌≤◌, ◌<◌}
 use mathlib.Core.Bool.{Bool, true, false}
 use mathlib.Core.List.{List, [], ◌∷◌, ◌++◌}
@@ -8,12 +9,9 @@ use native.Mathlib.Omega.{arith}
 use borrow.Author.Tests.{eqb-true, eqb-false, eq-eqb, ne_eqb}
 use lib.Dec.{eqb}
 use Rattle.le.specs.Number.{number}
-use Rattle.refusal.specs.declared.Refusal.{Refusal}
-use Rattle.refusal.specs.declared.Check.TheVariants.{Passed}
-use Rattle.refusal.specs.Check.{either}
+use Rattle.refusal.specs.Check.{either, Passed}
 use Rattle.seq.specs.Lists.{All, In, Ordered}
 use Rattle.seq.proofs.Lists.{all_imp, all_append, ordered_append, in_first, in_rest, in_none, in_cases, all_in, all_of}
-use Rattle.dcpi.specs.declared.SampleCount.TheVariants.{Found, Absent, Refused}
 use Rattle.dcpi.specs.Samples.{spacing, Chunk, last_offset, OffsetCount, counts_from, counts_of, counts_of_all, non_zero}
 use Rattle.dcpi.specs.Check.{chunks_check}
 use Rattle.dcpi.specs.Answers.{count_for}
@@ -98,7 +96,7 @@ module _ (s : List ℕ) where
 -- ---- the count for an offset
 
 module _ (offset : ℕ) where
-  pub for_none : (xs : List OffsetCount) → All (NotFor offset) xs → count_for offset xs ≡ Absent
+  pub for_none : (xs : List OffsetCount) → All (NotFor offset) xs → count_for offset xs ≡ None
   unfolding count_for either
   for_none [] h = refl
   for_none (x ∷ xs) h = rw (ne_eqb x.offset offset h.0) (for_none xs h.1)
@@ -110,51 +108,42 @@ module _ (offset : ℕ) where
 
   here_or_behind : (n : ℕ) (x : OffsetCount) (xs : List OffsetCount) → All (RisingOffsets x) xs
       → (record { offset = offset; count = n } ≡ x) ⊎ In (record { offset = offset; count = n }) xs
-      → (In (record { offset = offset; count = n }) xs → count_for offset xs ≡ Found n) → count_for offset (x ∷ xs) ≡ Found n
+      → (In (record { offset = offset; count = n }) xs → count_for offset xs ≡ Some n) → count_for offset (x ∷ xs) ≡ Some n
   unfolding count_for either
   here_or_behind n x xs o (inl e) r = rw (← e) (rw (eq-eqb offset offset refl))
   here_or_behind n x xs o (inr j) r =
       let l : x.offset < offset = all_in (RisingOffsets x) xs o j in
       rw (ne_eqb x.offset offset (λ q. omega arith)) (r j)
 
-  pub in_for : (n : ℕ) (xs : List OffsetCount) → Ordered RisingOffsets xs → In (record { offset = offset; count = n }) xs → count_for offset xs ≡ Found n
+  pub in_for : (n : ℕ) (xs : List OffsetCount) → Ordered RisingOffsets xs → In (record { offset = offset; count = n }) xs → count_for offset xs ≡ Some n
   in_for n [] o i = absurd (in_none i)
   in_for n (x ∷ xs) o i = here_or_behind n x xs o.0 (in_cases i) (in_for n xs o.1)
 
   abbrev FoundOrNot : OffsetCount → List OffsetCount → Type 0
   FoundOrNot x xs =
-      ((x.offset ≡ offset) × (count_for offset (x ∷ xs) ≡ Found x.count)) ⊎ (NotFor offset x × (count_for offset (x ∷ xs) ≡ count_for offset xs))
+      ((x.offset ≡ offset) × (count_for offset (x ∷ xs) ≡ Some x.count)) ⊎ (NotFor offset x × (count_for offset (x ∷ xs) ≡ count_for offset xs))
 
   found_or_not : (x : OffsetCount) (xs : List OffsetCount) (t : Bool) → eqb x.offset offset ≡ t → FoundOrNot x xs
   unfolding count_for either
   found_or_not x xs true e = inl (eqb-true x.offset offset e, rw e)
   found_or_not x xs false e = inr (eqb-false x.offset offset e, rw e)
 
-  pub for_in : (n : ℕ) (xs : List OffsetCount) → count_for offset xs ≡ Found n → In (record { offset = offset; count = n }) xs
+  pub for_in : (n : ℕ) (xs : List OffsetCount) → count_for offset xs ≡ Some n → In (record { offset = offset; count = n }) xs
   unfolding count_for
   for_in n [] e = let z : ◌≡◌ {A = ℕ} 0 1 = cc in absurd (omega arith)
   for_in n (x ∷ xs) e = go (found_or_not x xs (eqb x.offset offset) refl) (for_in n xs)
     where
-      go : FoundOrNot x xs → (count_for offset xs ≡ Found n → In (record { offset = offset; count = n }) xs) → In (record { offset = offset; count = n }) (x ∷ xs)
+      go : FoundOrNot x xs → (count_for offset xs ≡ Some n → In (record { offset = offset; count = n }) xs) → In (record { offset = offset; count = n }) (x ∷ xs)
       go (inl (o, f)) r = let m : x.count ≡ n = cc in rw (← o, ← m) (in_first x xs)
       go (inr (o, f)) r = in_rest x (r (sym f ∙ e))
 
-  pub absent_none : (xs : List OffsetCount) → count_for offset xs ≡ Absent → All (NotFor offset) xs
+  pub absent_none : (xs : List OffsetCount) → count_for offset xs ≡ None → All (NotFor offset) xs
   absent_none [] e = tt
   absent_none (x ∷ xs) e = go (found_or_not x xs (eqb x.offset offset) refl) (absent_none xs)
     where
-      go : FoundOrNot x xs → (count_for offset xs ≡ Absent → All (NotFor offset) xs) → All (NotFor offset) (x ∷ xs)
+      go : FoundOrNot x xs → (count_for offset xs ≡ None → All (NotFor offset) xs) → All (NotFor offset) (x ∷ xs)
       go (inl (o, f)) r = let z : ◌≡◌ {A = ℕ} 0 1 = cc in absurd (omega arith)
       go (inr (o, f)) r = (o, r (sym f ∙ e))
-
-  pub never_refused : (r : Refusal) (xs : List OffsetCount) → count_for offset xs ≡ Refused r → ⊥
-  unfolding count_for
-  never_refused r [] e = let z : ◌≡◌ {A = ℕ} 0 1 = cc in omega arith
-  never_refused r (x ∷ xs) e = go (found_or_not x xs (eqb x.offset offset) refl) (never_refused r xs)
-    where
-      go : FoundOrNot x xs → (count_for offset xs ≡ Refused r → ⊥) → ⊥
-      go (inl (o, f)) n = let z : ◌≡◌ {A = ℕ} 0 1 = cc in omega arith
-      go (inr (o, f)) n = n (sym f ∙ e)
 
 -- ---- those that are not zero
 

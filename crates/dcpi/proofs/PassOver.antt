@@ -1,5 +1,7 @@
 -- A pass over the chunks: the check of what is left, and what is counted with what is left, are the same at every turn. Ranges do not
 -- overlap, so that there are at most as many counts as offsets below the next, and their sum is a u64.
+use Rattle.std.specs.Prelude.{Err}
+use Rattle.refusal.specs.Check.{Passed}
 use Prim.Native.Nat.{ℕ, ◌+◌, ◌-◌, ◌*◌, ◌^◌, ◌≤◌, ◌<◌}
 use mathlib.Core.Bool.{true, false}
 use mathlib.Core.List.{List, [], ◌∷◌}
@@ -8,7 +10,6 @@ use native.Mathlib.Omega.{arith}
 use lib.ListN.{length}
 use Rattle.le.specs.Number.{number}
 use Rattle.refusal.specs.declared.Refusal.TheVariants as No
-use Rattle.refusal.specs.declared.Check.TheVariants.{Passed, Refused}
 use Rattle.dcpi.specs.Samples.{spacing, totals_at, Chunk, chunk_at, chunk_end, last_offset, chunks, counts_from, counts_of, counts_of_all, sample_counts, non_zero, sum_of}
 use Rattle.dcpi.specs.Check.{chunk_rule, chunks_check}
 use Rattle.dcpi.proofs.Chunks.{chunks_on, chunks_all, chunks_none, chunks_more}
@@ -55,10 +56,10 @@ module _ (s : List ℕ) where
       here : chunks_check s least (c ∷ cs) ≡ chunks_check s 0 (chunks s)
       here = rw (chunks_more s p l) at h.check_left
 
-      pub pass_7 : chunk_rule s c ≡ false → Refused No.Array ≡ chunks_check s 0 (chunks s)
+      pub pass_7 : chunk_rule s c ≡ false → Err No.Array ≡ chunks_check s 0 (chunks s)
       pass_7 e = sym (check_7 s least c cs e) ∙ here
 
-      pub pass_11 : chunk_rule s c ≡ true → c.offset < least → Refused No.Order ≡ chunks_check s 0 (chunks s)
+      pub pass_11 : chunk_rule s c ≡ true → c.offset < least → Err No.Order ≡ chunks_check s 0 (chunks s)
       pass_11 e m = sym (check_11 s least c cs e m) ∙ here
 
       next : chunk_rule s c ≡ true → least ≤ c.offset → {n m : ℕ}

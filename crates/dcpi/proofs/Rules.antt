@@ -1,4 +1,5 @@
 -- The rules of chunks as tests and as facts; a check of chunks, chunk by chunk.
+use Rattle.std.specs.Prelude.{Err}
 use Prim.Native.Nat.{ℕ, ◌+◌, ◌-◌, ◌*◌, ◌^◌, ◌≤◌, ◌<◌}
 use mathlib.Core.Bool.{true, false, ◌&&◌}
 use mathlib.Core.List.{List, [], ◌∷◌}
@@ -9,10 +10,9 @@ use borrow.Author.Tests.{leb-true, le-leb, ltb-true, lt-ltb, lt-leb}
 use lib.Dec.{leb, ltb, eqb}
 use lib.ListN.{length}
 use Rattle.le.specs.Number.{number}
+use Rattle.refusal.specs.declared.Refusal.{Refusal}
 use Rattle.refusal.specs.declared.Refusal.TheVariants as No
-use Rattle.refusal.specs.declared.Check.{Check}
-use Rattle.refusal.specs.declared.Check.TheVariants.{Passed, Refused}
-use Rattle.refusal.specs.Check.{rule, first}
+use Rattle.refusal.specs.Check.{rule, first, Passed}
 use Rattle.refusal.proofs.Checks.{rule_passes, first_passes}
 use Rattle.range.proofs.Tests.{same_truth, both}
 use Rattle.dcpi.specs.Samples.{spacing, totals_at, Chunk, chunk_at, chunk_end, last_offset, chunks, sample_counts, non_zero, sum_of}
@@ -60,16 +60,16 @@ module _ (s : List ℕ) where
   check_none least = refl
 
   module _ (least : ℕ) (c : Chunk) (cs : List Chunk) where
-    pub check_7 : chunk_rule s c ≡ false → chunks_check s least (c ∷ cs) ≡ Refused No.Array
-    unfolding chunks_check rule first
+    pub check_7 : chunk_rule s c ≡ false → chunks_check s least (c ∷ cs) ≡ Err No.Array
+    unfolding chunks_check rule
     check_7 e = rw e
 
-    pub check_11 : chunk_rule s c ≡ true → c.offset < least → chunks_check s least (c ∷ cs) ≡ Refused No.Order
-    unfolding chunks_check rule first
+    pub check_11 : chunk_rule s c ≡ true → c.offset < least → chunks_check s least (c ∷ cs) ≡ Err No.Order
+    unfolding chunks_check rule
     check_11 e l = rw (e, lt-leb least c.offset l)
 
     pub check_more : chunk_rule s c ≡ true → least ≤ c.offset → chunks_check s least (c ∷ cs) ≡ chunks_check s (last_offset c + 1) cs
-    unfolding chunks_check rule first
+    unfolding chunks_check rule
     check_more e l = rw (e, le-leb least c.offset l)
 
     -- a check that passes has passed here
@@ -92,15 +92,19 @@ module _ (s : List ℕ) where
       let y = (first_passes (chunks_check s 0 (chunks s)) (rule (totals_rule s) No.Total)).0 x.1 in
       (leb-true 8 (length s) ((rule_passes (leb 8 (length s)) No.Short).0 x.0), (y.0, (rule_passes (totals_rule s) No.Total).0 y.1))
 
-  pub check_1 : length s < 8 → Refused No.Short ≡ samples_check s
-  unfolding samples_check rule first
+  pub check_1 : length s < 8 → Err No.Short ≡ samples_check s
+  unfolding samples_check rule
   check_1 l = rw (lt-leb 8 (length s) l)
 
   -- by what a pass over the chunks says
-  pub check_20 : 8 ≤ length s → (seen : Check) {a b nonzero sum : ℕ} → seen ≡ chunks_check s 0 (chunks s)
+  pub check_20 : 8 ≤ length s → {a b nonzero sum : ℕ} → chunks_check s 0 (chunks s) ≡ Passed
       → a ≡ number 4 s (totals_at s) → b ≡ number 4 s (totals_at s + 4)
-      → (seen ≡ Passed → nonzero ≡ length (non_zero (sample_counts s))) → (seen ≡ Passed → sum ≡ sum_of (sample_counts s))
-      → first seen (rule (eqb a nonzero && eqb b sum) No.Total) ≡ samples_check s
-  unfolding samples_check totals_rule rule first
-  check_20 l Passed e p q n m = rw (le-leb 8 (length s) l, ← e, p, q, n refl, m refl)
-  check_20 l (Refused r) e p q n m = rw (le-leb 8 (length s) l, ← e)
+      → nonzero ≡ length (non_zero (sample_counts s)) → sum ≡ sum_of (sample_counts s)
+      → rule (eqb a nonzero && eqb b sum) No.Total ≡ samples_check s
+  unfolding samples_check totals_rule rule
+  check_20 l e p q n m = rw (le-leb 8 (length s) l, e, p, q, n, m)
+
+  -- what the chunks are refused by
+  pub check_chunks : 8 ≤ length s → {r : Refusal} → chunks_check s 0 (chunks s) ≡ Err r → Err r ≡ samples_check s
+  unfolding samples_check rule
+  check_chunks l e = rw (le-leb 8 (length s) l, e)

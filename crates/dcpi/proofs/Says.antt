@@ -1,4 +1,7 @@
 -- What is said of a section, in facts: which refusal is given exactly when, and what is found, absent and in the totals.
+use Rattle.refusal.proofs.Checks.{ok_same, err_same}
+use Rattle.dcpi.specs.declared.SampleTotals.{SampleTotals}
+use Rattle.std.specs.Prelude.{Err, Ok, Some, None}
 use Prim.Native.Nat.{ℕ, zero, suc, ◌+◌, ◌^◌, ◌≤◌, ◌<◌}
 use mathlib.Core.Bool.{Bool, true, false, true≢false}
 use mathlib.Core.List.{List, [], ◌∷◌, ◌++◌}
@@ -11,22 +14,19 @@ use lib.ListN.{length}
 use Rattle.le.specs.Number.{number}
 use Rattle.refusal.specs.declared.Refusal.{Refusal}
 use Rattle.refusal.specs.declared.Refusal.TheVariants as No
-use Rattle.refusal.specs.declared.Check.TheVariants.{Passed, Refused}
 use Rattle.refusal.specs.Number.{number_of}
-use Rattle.refusal.specs.Check.{either}
+use Rattle.refusal.specs.Check.{either, Passed, Absent, Found}
 use Rattle.refusal.proofs.Checks.{not_both, Decides, rule_decides, first_decides, if_passed_answers, if_passed_refuses}
 use Rattle.range.proofs.Tests.{both}
 use Rattle.seq.specs.Lists.{All, In, Ordered}
 use Rattle.seq.proofs.Lists.{all_imp, in_cases, in_none, in_rest, in_first, in_left, in_right, in_append, all_in, all_of}
-use Rattle.dcpi.specs.declared.SampleCount.TheVariants as SampleCount
-use Rattle.dcpi.specs.declared.SampleTotals.TheVariants as SampleTotals
 use Rattle.dcpi.specs.Samples.{totals_at, Chunk, chunk_at, chunk_end, last_offset, chunks_from, chunks, OffsetCount, counts_of, counts_of_all, sample_counts, non_zero, sum_of}
 use Rattle.dcpi.specs.Check.{chunk_rule, chunks_check, totals_rule, samples_check}
-use Rattle.dcpi.specs.Answers.{count_for, sample_lookup, sample_totals}
+use Rattle.dcpi.specs.Answers.{count_for, sample_lookup, sample_totals, given_sample_totals}
 use Rattle.dcpi.specs.Facts.{ChunkKept, RangeBefore, TotalsKept, ChunksKept, FollowFrom, SamplesKept, Reached, Breaks7, Breaks11, HasCount, CheckSays, SamplesSay}
 use Rattle.dcpi.proofs.Rules.{chunk_iff, check_none, check_7, check_11, check_more, check_kept}
 use Rattle.dcpi.proofs.Counts.{count_at}
-use Rattle.dcpi.proofs.Offsets.{RisingOffsets, NotFor, NumberedCount, counts_are, counts_at, counts_rise, in_for, for_in, for_none, absent_none, never_refused}
+use Rattle.dcpi.proofs.Offsets.{RisingOffsets, NotFor, NumberedCount, counts_are, counts_at, counts_rise, in_for, for_in, for_none, absent_none}
 
 module _ (s : List ℕ) where
   -- ---- chunks with a least offset for the first
@@ -84,12 +84,12 @@ module _ (s : List ℕ) where
   behind_next least b before c r l (inl x) = inl x
   behind_next least b before c r l (inr (e, (k, n))) = inr (e, (k, λ m a. n (omega arith) (omega arith, a)))
 
-  breaks : (least : ℕ) (cs : List Chunk) (r : Refusal) → chunks_check s least cs ≡ Refused r → Breaks least cs r
+  breaks : (least : ℕ) (cs : List Chunk) (r : Refusal) → chunks_check s least cs ≡ Err r → Breaks least cs r
   breaks least [] r e = absurd (not_both (sym (check_none s least) ∙ e))
   breaks least (c ∷ cs) r e = go (chunk_rule s c) (leb least c.offset) refl refl (breaks (last_offset c + 1) cs r)
     where
       go : (t u : Bool) → chunk_rule s c ≡ t → leb least c.offset ≡ u
-          → (chunks_check s (last_offset c + 1) cs ≡ Refused r → Breaks (last_offset c + 1) cs r) → Breaks least (c ∷ cs) r
+          → (chunks_check s (last_offset c + 1) cs ≡ Err r → Breaks (last_offset c + 1) cs r) → Breaks least (c ∷ cs) r
       go false u p q rec = record {
         before = [];
         chunk = c;
@@ -121,21 +121,21 @@ module _ (s : List ℕ) where
             broken = behind_more least c h.before h.chunk r l h.broken;
           }
 
-  broken_refuses : (least : ℕ) (c : Chunk) (after : List Chunk) (r : Refusal) → Broken least [] c r → chunks_check s least (c ∷ after) ≡ Refused r
-  broken_refuses least c after r (inl (e, n)) = check_7 s least c after (go (chunk_rule s c) refl) ∙ ap Refused e
+  broken_refuses : (least : ℕ) (c : Chunk) (after : List Chunk) (r : Refusal) → Broken least [] c r → chunks_check s least (c ∷ after) ≡ Err r
+  broken_refuses least c after r (inl (e, n)) = check_7 s least c after (go (chunk_rule s c) refl) ∙ ap Err e
     where
       go : (t : Bool) → chunk_rule s c ≡ t → t ≡ false
       go false p = refl
       go true p = absurd (n ((chunk_iff s c).0 p))
   broken_refuses least c after r (inr (e, (k, n))) =
-      check_11 s least c after ((chunk_iff s c).1 k) (go (leb least c.offset) refl) ∙ ap Refused e
+      check_11 s least c after ((chunk_iff s c).1 k) (go (leb least c.offset) refl) ∙ ap Err e
     where
       go : (t : Bool) → leb least c.offset ≡ t → c.offset < least
       go false p = leb-false least c.offset p
       go true p = absurd (n (leb-true least c.offset p) tt)
 
   refuses : (least : ℕ) (before : List Chunk) (c : Chunk) (after : List Chunk) (r : Refusal) → KeptFrom least before → Broken least before c r
-      → chunks_check s least (before ++ (c ∷ after)) ≡ Refused r
+      → chunks_check s least (before ++ (c ∷ after)) ≡ Err r
   refuses least [] c after r h b = broken_refuses least c after r b
   refuses least (d ∷ before) c after r h b =
       let n = from_next least d before h in
@@ -350,13 +350,13 @@ module _ (s : List ℕ) where
 
   -- ---- what is answered
 
-  found_iff : SamplesKept s → (offset n : ℕ) → (count_for offset (sample_counts s) ≡ SampleCount.Found n) ↔ HasCount s offset n
+  found_iff : SamplesKept s → (offset n : ℕ) → (count_for offset (sample_counts s) ≡ Some n) ↔ HasCount s offset n
   found_iff h offset n = (
     λ e. (has_count offset n).0 (for_in offset n (sample_counts s) e),
     λ k. in_for offset n (sample_counts s) (sound_rises h) ((has_count offset n).1 k),
   )
 
-  absent_iff : (offset : ℕ) → (count_for offset (sample_counts s) ≡ SampleCount.Absent) ↔ ((n : ℕ) → HasCount s offset n → ⊥)
+  absent_iff : (offset : ℕ) → (count_for offset (sample_counts s) ≡ None) ↔ ((n : ℕ) → HasCount s offset n → ⊥)
   absent_iff offset = (
     λ e n k. all_in (NotFor offset) (sample_counts s) (absent_none offset (sample_counts s) e) ((has_count offset n).1 k) refl,
     λ h. for_none offset (sample_counts s) (all_of (NotFor offset) (sample_counts s) (λ x i q. h x.count ((has_count offset x.count).0 (rw (← q) i)))),
@@ -365,31 +365,31 @@ module _ (s : List ℕ) where
   pub samples_say : SamplesSay s
   unfolding sample_lookup sample_totals
   samples_say =
-      let stored = SampleTotals.Of (number 4 s (totals_at s)) (number 4 s (totals_at s + 4)) in
+      let stored = given_sample_totals (number 4 s (totals_at s)) (number 4 s (totals_at s + 4)) in
       record {
         check = check_says;
         found = λ offset n.
-            let a = if_passed_answers SampleCount.Refused (samples_check s) (count_for offset (sample_counts s)) (SampleCount.Found n) (λ r e z. let q : ◌≡◌ {A = ℕ} 0 1 = cc in omega arith) in (
-              λ e. let h = a.0 e in let k = sound_iff.0 h.0 in (k, (found_iff k offset n).0 h.1),
-              λ h. a.1 (sound_iff.1 h.0, (found_iff h.0 offset n).1 h.1),
+            let a = if_passed_answers Err (samples_check s) (Ok (count_for offset (sample_counts s))) (Found n) (λ r e z. let q : ◌≡◌ {A = ℕ} 0 1 = cc in omega arith) in (
+              λ e. let h = a.0 e in let k = sound_iff.0 h.0 in (k, (found_iff k offset n).0 (ok_same h.1)),
+              λ h. a.1 (sound_iff.1 h.0, ap Ok ((found_iff h.0 offset n).1 h.1)),
             );
         absent = λ offset.
-            let a = if_passed_answers SampleCount.Refused (samples_check s) (count_for offset (sample_counts s)) SampleCount.Absent (λ r e z. let q : ◌≡◌ {A = ℕ} 0 1 = cc in omega arith) in (
-              λ e. let h = a.0 e in (sound_iff.0 h.0, (absent_iff offset).0 h.1),
-              λ h. a.1 (sound_iff.1 h.0, (absent_iff offset).1 h.1),
+            let a = if_passed_answers Err (samples_check s) (Ok (count_for offset (sample_counts s))) Absent (λ r e z. let q : ◌≡◌ {A = ℕ} 0 1 = cc in omega arith) in (
+              λ e. let h = a.0 e in (sound_iff.0 h.0, (absent_iff offset).0 (ok_same h.1)),
+              λ h. a.1 (sound_iff.1 h.0, ap Ok ((absent_iff offset).1 h.1)),
             );
-        lookup_refused = λ offset r. if_passed_refuses SampleCount.Refused (samples_check s) (count_for offset (sample_counts s)) r (never_refused offset r (sample_counts s)) (λ t z. (cc));
+        lookup_refused = λ offset r. if_passed_refuses Err (samples_check s) (Ok (count_for offset (sample_counts s))) r (λ z. let q : ◌≡◌ {A = ℕ} 0 1 = cc in omega arith) (λ t z. err_same z);
         totals = λ offsets samples.
-            let a = if_passed_answers SampleTotals.Refused (samples_check s) stored (SampleTotals.Of offsets samples) (λ r e z. let q : ◌≡◌ {A = ℕ} 0 1 = cc in omega arith) in (
+            let a = if_passed_answers Err (samples_check s) stored (given_sample_totals offsets samples) (λ r e z. let q : ◌≡◌ {A = ℕ} 0 1 = cc in omega arith) in (
               λ e.
                   let h = a.0 e in
                   let k = sound_iff.0 h.0 in
-                  let x : number 4 s (totals_at s) ≡ offsets = let z = h.1 in (cc) in
-                  let y : number 4 s (totals_at s + 4) ≡ samples = let z = h.1 in (cc) in
+                  let x : number 4 s (totals_at s) ≡ offsets = ap (λ (t : SampleTotals). t.offsets) (ok_same h.1) in
+                  let y : number 4 s (totals_at s + 4) ≡ samples = ap (λ (t : SampleTotals). t.samples) (ok_same h.1) in
                   (k, (sym x ∙ k.totals_kept.first_total, sym y ∙ k.totals_kept.second_total)),
               λ h. a.1 (sound_iff.1 h.0, rw (h.0.totals_kept.first_total, h.0.totals_kept.second_total, h.1.0, h.1.1)),
             );
-        totals_refused = λ r. if_passed_refuses SampleTotals.Refused (samples_check s) stored r (λ z. let q : ◌≡◌ {A = ℕ} 0 1 = cc in omega arith) (λ t z. (cc));
+        totals_refused = λ r. if_passed_refuses Err (samples_check s) stored r (λ z. let q : ◌≡◌ {A = ℕ} 0 1 = cc in omega arith) (λ t z. err_same z);
       }
 
 -- "Offsets increase and ranges do not overlap", the two in one: of chunks that have counts

@@ -6,7 +6,7 @@ use native.Mathlib.Omega.{arith}
 use lib.ListN.{length}
 use Rattle.le.specs.Number.{number}
 use Rattle.dcpi.specs.Samples.{counts_from, non_zero, sum_of}
-use Rattle.dcpi.proofs.Counts.{counts_after, count_at, after_none, after_more, after_all, nonzero_skip, nonzero_take}
+use Rattle.dcpi.proofs.Counts.{counts_after, count_at, after_more, after_all, nonzero_skip, nonzero_take}
 
 module _ (s : List ℕ) (place n : ℕ) where
   pub record Summed (zeros sum i : ℕ) : Type 0 where
@@ -15,15 +15,6 @@ module _ (s : List ℕ) (place n : ℕ) where
     pub sum_left : (offset : ℕ) → sum + sum_of (counts_after s place offset n i) ≡ sum_of (counts_from s place offset n)
     pub few : zeros ≤ i
     pub small : sum ≤ i * 0xffff_ffff
-
-  pub summed_none : Summed 0 0 0
-  summed_none = record {
-    within = omega arith;
-    zeros_left = λ offset. rw (after_none s place offset n) (omega arith);
-    sum_left = λ offset. rw (after_none s place offset n) (omega arith);
-    few = omega arith;
-    small = omega arith;
-  }
 
   module _ {zeros sum i : ℕ} (h : Summed zeros sum i) where
     pub summed_all : n ≤ i → (offset : ℕ)

@@ -2,9 +2,7 @@
 -- 2^32 − 1; 11 for offsets or overlap; then 20 Total if either total differs" (2026-06).
 use Rattle.std.specs.Prelude.{ℕ, ◌+◌, ◌^◌, Bool, ◌&&◌, List, [], ◌∷◌, leb, ltb, eqb, length}
 use Rattle.refusal.specs.declared.Refusal.TheVariants as No
-use Rattle.refusal.specs.declared.Check.{Check}
-use Rattle.refusal.specs.declared.Check.TheVariants.{Passed}
-use Rattle.refusal.specs.Check.{rule, first}
+use Rattle.refusal.specs.Check.{rule, first, Check, Passed}
 use Rattle.dcpi.specs.Samples.{totals_at, total_offsets, total_samples, Chunk, chunk_end, last_offset, chunks, sample_counts, non_zero, sum_of}
 
 -- 7

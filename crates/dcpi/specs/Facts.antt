@@ -1,16 +1,14 @@
 -- Request 2026-06 in facts, about any bytes: the rules of a section, and what is said of it.
-use Rattle.std.specs.Prelude.{ℕ, ◌+◌, ◌*◌, ◌^◌, ◌≤◌, ◌<◌, List, [], ◌∷◌, ◌++◌, ◌↔◌, ◌⊎◌, ◌≡◌, length}
+use Rattle.refusal.specs.Check.{Passed, Absent, Found}
+use Rattle.std.specs.Prelude.{ℕ, ◌+◌, ◌*◌, ◌^◌, ◌≤◌, ◌<◌, List, [], ◌∷◌, ◌++◌, ◌↔◌, ◌⊎◌, ◌≡◌, length, Err}
 use Rattle.le.specs.Number.{number}
 use Rattle.refusal.specs.declared.Refusal.{Refusal}
 use Rattle.refusal.specs.declared.Refusal.TheVariants as No
-use Rattle.refusal.specs.declared.Check.TheVariants as Check
 use Rattle.refusal.specs.Number.{number_of}
 use Rattle.seq.specs.Lists.{All, In, Ordered}
-use Rattle.dcpi.specs.declared.SampleCount.TheVariants as SampleCount
-use Rattle.dcpi.specs.declared.SampleTotals.TheVariants as SampleTotals
 use Rattle.dcpi.specs.Samples.{spacing, totals_at, total_offsets, total_samples, Chunk, chunk_at, chunk_end, last_offset, chunks, sample_counts, non_zero, sum_of}
 use Rattle.dcpi.specs.Check.{samples_check}
-use Rattle.dcpi.specs.Answers.{sample_lookup, sample_totals}
+use Rattle.dcpi.specs.Answers.{sample_lookup, sample_totals, given_sample_totals}
 
 -- ---- the rules
 
@@ -79,20 +77,20 @@ pub record HasCount (s : List ℕ) (offset n : ℕ) : Type 0 where
 
 -- "Refusals, by chunk in order": the first chunk that breaks one of its rules gives it, 7 before 11
 pub record CheckSays (s : List ℕ) : Type 0 where
-  pub passes : (samples_check s ≡ Check.Passed) ↔ SamplesKept s
-  pub is_1 : (samples_check s ≡ Check.Refused No.Short) ↔ (length s < 8)
-  pub is_7 : (samples_check s ≡ Check.Refused No.Array) ↔ Breaks7 s
-  pub is_11 : (samples_check s ≡ Check.Refused No.Order) ↔ Breaks11 s
-  pub is_20 : (samples_check s ≡ Check.Refused No.Total) ↔ ((8 ≤ length s) × (ChunksKept s (chunks s) × (TotalsKept s → ⊥)))
-  pub no_other : (r : Refusal) → samples_check s ≡ Check.Refused r
+  pub passes : (samples_check s ≡ Passed) ↔ SamplesKept s
+  pub is_1 : (samples_check s ≡ Err No.Short) ↔ (length s < 8)
+  pub is_7 : (samples_check s ≡ Err No.Array) ↔ Breaks7 s
+  pub is_11 : (samples_check s ≡ Err No.Order) ↔ Breaks11 s
+  pub is_20 : (samples_check s ≡ Err No.Total) ↔ ((8 ≤ length s) × (ChunksKept s (chunks s) × (TotalsKept s → ⊥)))
+  pub no_other : (r : Refusal) → samples_check s ≡ Err r
       → (number_of r ≡ 1) ⊎ ((number_of r ≡ 7) ⊎ ((number_of r ≡ 11) ⊎ (number_of r ≡ 20)))
 
 -- "Look up a sample count by offset .. An offset that no count is for is absent."
 pub record SamplesSay (s : List ℕ) : Type 0 where
   pub check : CheckSays s
-  pub found : (offset n : ℕ) → (sample_lookup s offset ≡ SampleCount.Found n) ↔ (SamplesKept s × HasCount s offset n)
-  pub absent : (offset : ℕ) → (sample_lookup s offset ≡ SampleCount.Absent) ↔ (SamplesKept s × ((n : ℕ) → HasCount s offset n → ⊥))
-  pub lookup_refused : (offset : ℕ) (r : Refusal) → (sample_lookup s offset ≡ SampleCount.Refused r) ↔ (samples_check s ≡ Check.Refused r)
-  pub totals : (offsets samples : ℕ) → (sample_totals s ≡ SampleTotals.Of offsets samples)
+  pub found : (offset n : ℕ) → (sample_lookup s offset ≡ Found n) ↔ (SamplesKept s × HasCount s offset n)
+  pub absent : (offset : ℕ) → (sample_lookup s offset ≡ Absent) ↔ (SamplesKept s × ((n : ℕ) → HasCount s offset n → ⊥))
+  pub lookup_refused : (offset : ℕ) (r : Refusal) → (sample_lookup s offset ≡ Err r) ↔ (samples_check s ≡ Err r)
+  pub totals : (offsets samples : ℕ) → (sample_totals s ≡ given_sample_totals offsets samples)
       ↔ (SamplesKept s × ((offsets ≡ length (non_zero (sample_counts s))) × (samples ≡ sum_of (sample_counts s))))
-  pub totals_refused : (r : Refusal) → (sample_totals s ≡ SampleTotals.Refused r) ↔ (samples_check s ≡ Check.Refused r)
+  pub totals_refused : (r : Refusal) → (sample_totals s ≡ Err r) ↔ (samples_check s ≡ Err r)

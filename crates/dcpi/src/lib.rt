@@ -1,39 +1,32 @@
 // Old DCPI sample files: the binary section, validated in one pass before anything is answered.
 #![tactic(auto)]
 
-ghost use Rattle.std.specs.Prelude.{◌≡◌, ℕ, ◌+◌, ◌*◌, ◌^◌, ◌≤◌, ◌<◌, length};
-ghost use Rattle.refusal.specs.declared.Check.TheVariants as Check;
+ghost use Rattle.std.specs.Prelude.{◌≡◌, ℕ, ◌+◌, ◌*◌, ◌^◌, ◌≤◌, ◌<◌, length, Ok, Err, MatchResult};
+ghost use Rattle.refusal.specs.Check.{Passed};
 ghost use Rattle.dcpi.specs.Samples.{total_offsets, total_samples, chunk_at, chunks, counts_from, sample_counts, non_zero, sum_of};
 ghost use Rattle.dcpi.specs.Check.{chunk_rule, chunks_check, samples_check};
-ghost use Rattle.dcpi.specs.Answers.{count_for, sample_lookup, sample_totals};
+ghost use Rattle.dcpi.specs.Answers.{count_for, sample_lookup, sample_totals, given_sample_totals};
 
-use refusal::{Check, Refusal};
+use refusal::Refusal;
 
 // The counts of a chunk are for offsets so far apart.
 pub const SPACING: u64 = 1;
 
-// The count for an offset.
-#[derive(Clone, Copy)]
-pub enum SampleCount {
-    Found(u64),
-    Absent,
-    Refused(refusal::Refusal),
-}
-
 // How many counts are not zero, and their sum.
-#[derive(Clone, Copy)]
-pub enum SampleTotals {
-    Of { offsets: u64, samples: u64 },
-    Refused(refusal::Refusal),
+#[derive(Clone, Copy, Debug, PartialEq, Eq)]
+pub struct SampleTotals {
+    pub offsets: u64,
+    pub samples: u64,
 }
 
-// Of the counts of a chunk: how many are not zero, and their sum.
+// Of some counts, a chunk's or all: how many are not zero, and their sum.
 #[derive(Clone, Copy)]
 struct Sums {
     nonzero: u64,
     sum: u64,
 }
 
+// Those of a chunk.
 fn chunk_sums(samples: &[u8], at: usize, n: usize) -> Sums
     requires n_in_bounds { at + n * 4 ≤ length samples.now }
     requires n_bound { n < 2 ^ 32 }
@@ -42,16 +35,14 @@ fn chunk_sums(samples: &[u8], at: usize, n: usize) -> Sums
     ensures few { result.nonzero ≤ n }
     ensures small { result.sum ≤ n * 0xffff_ffff }
 {
-    let mut i: usize = 0;
     let mut zeros: u32 = 0;
     let mut sum: u64 = 0;
-    while i < n {
-        let count = le::packed_u32(samples, at + i * 4);
+    for i in 0..n {
+        let count = le::load_u32(samples, at + i * 4);
         if count == 0 {
             zeros += 1;
         }
         sum += count as u64;
-        i += 1;
     }
     let nonzero = n as u64 - zeros as u64;
     Sums { nonzero, sum }
@@ -62,35 +53,18 @@ fn chunk_rule(samples: &[u8], p: usize) -> bool
     requires { p + 8 < length samples.now }
     ensures { result ≡ chunk_rule samples.now (chunk_at samples.now p) }
 {
-    let offset = le::packed_u32(samples, p) as u64;
-    let size = le::packed_u32(samples, p + 4) as u64;
+    let offset = le::load_u32(samples, p) as u64;
+    let size = le::load_u32(samples, p + 4) as u64;
     let room = (samples.len() - 8 - p) as u64;
     ((8 + size * 4 <= room) & (1 <= size)) & (offset + size * SPACING < 0x1_0000_0000 + SPACING)
 }
 
-// What a pass over the chunks comes to: the check, and of chunks that keep the rules how many counts are not zero, and their sum.
-#[derive(Clone, Copy)]
-struct Seen {
-    check: Check,
-    nonzero: u64,
-    sum: u64,
-}
-
-fn refused(r: Refusal) -> Seen
-    ensures { result.check ≡ Check.Refused r }
-{
-    Seen {
-        check: Check::Refused(r),
-        nonzero: 0,
-        sum: 0,
-    }
-}
-
-fn pass_chunks(samples: &[u8]) -> Seen
+// One pass over the chunks, and over the counts of those that keep the rules.
+fn pass_chunks(samples: &[u8]) -> Result<Sums, Refusal>
     requires { 8 ≤ length samples.now }
-    ensures check { result.check ≡ chunks_check samples.now 0 (chunks samples.now) }
-    ensures nonzero { result.check ≡ Check.Passed → result.nonzero ≡ length (non_zero (sample_counts samples.now)) }
-    ensures sum { result.check ≡ Check.Passed → result.sum ≡ sum_of (sample_counts samples.now) }
+    ensures { MatchResult result (λ s. (chunks_check samples.now 0 (chunks samples.now) ≡ Passed)
+        × (s.nonzero ≡ length (non_zero (sample_counts samples.now))) × (s.sum ≡ sum_of (sample_counts samples.now)))
+        (λ r. chunks_check samples.now 0 (chunks samples.now) ≡ Err r) }
 {
     let end = samples.len() - 8;
     let mut p: usize = 0;
@@ -99,98 +73,84 @@ fn pass_chunks(samples: &[u8]) -> Seen
     let mut sum: u64 = 0;
     while p < end {
         if !chunk_rule(samples, p) {
-            return refused(Refusal::Array);
+            return Err(Refusal::Array);
         }
-        let offset = le::packed_u32(samples, p) as u64;
+        let offset = le::load_u32(samples, p) as u64;
         if offset < least {
-            return refused(Refusal::Order);
+            return Err(Refusal::Order);
         }
-        let size = le::packed_u32(samples, p + 4) as usize;
+        let size = le::load_u32(samples, p + 4) as usize;
         let chunk = chunk_sums(samples, p + 8, size);
         nonzero += chunk.nonzero;
         sum += chunk.sum;
         least = offset + (size as u64 - 1) * SPACING + 1;
         p = p + 8 + size * 4;
     }
-    Seen {
-        check: Check::Passed,
-        nonzero,
-        sum,
-    }
+    Ok(Sums { nonzero, sum })
 }
 
 // 1; 7 and 11, chunk by chunk; 20.
-pub fn check(samples: &[u8]) -> Check
+pub fn check(samples: &[u8]) -> Result<(), Refusal>
     ensures { result ≡ samples_check samples.now }
 {
     if samples.len() < 8 {
-        return Check::Refused(Refusal::Short);
+        return Err(Refusal::Short);
     }
     let end = samples.len() - 8;
-    let seen = pass_chunks(samples);
-    let nonzero = le::packed_u32(samples, end) as u64;
-    let sum = le::packed_u32(samples, end + 4) as u64;
-    let chunks = seen.check;
-    refusal::first(
-        chunks,
-        refusal::rule(
-            (nonzero == seen.nonzero) & (sum == seen.sum),
-            Refusal::Total,
-        ),
+    let seen = pass_chunks(samples)?;
+    let nonzero = le::load_u32(samples, end) as u64;
+    let sum = le::load_u32(samples, end + 4) as u64;
+    refusal::rule(
+        (nonzero == seen.nonzero) & (sum == seen.sum),
+        Refusal::Total,
     )
 }
 
 // The count for an offset: chunk by chunk, as long as the offset may be in one.
-fn find(samples: &[u8], offset: u64) -> SampleCount
-    requires { samples_check samples.now ≡ Check.Passed }
+fn find(samples: &[u8], offset: u64) -> Option<u64>
+    requires { samples_check samples.now ≡ Passed }
     ensures { result ≡ count_for offset (sample_counts samples.now) }
 {
     let end = samples.len() - 8;
     let mut p: usize = 0;
     while p < end {
-        let first = le::packed_u32(samples, p) as u64;
-        let size = le::packed_u32(samples, p + 4) as u64;
+        let first = le::load_u32(samples, p) as u64;
+        let size = le::load_u32(samples, p + 4) as u64;
         if offset < first {
-            return SampleCount::Absent;
+            return None;
         }
         let i = (offset - first) / SPACING;
         if (i < size) & ((offset - first) % SPACING == 0) {
-            return SampleCount::Found(le::packed_u32(samples, p + 8 + i as usize * 4) as u64);
+            return Some(le::load_u32(samples, p + 8 + i as usize * 4) as u64);
         }
         p = p + 8 + size as usize * 4;
     }
-    SampleCount::Absent
+    None
 }
 
 // The count for an offset, or absent: 1, 7, 11 and 20 first.
-pub fn lookup(samples: &[u8], offset: u64) -> SampleCount
+pub fn lookup(samples: &[u8], offset: u64) -> Result<Option<u64>, Refusal>
     ensures { result ≡ sample_lookup samples.now offset }
 {
-    let check = check(samples);
-    match check {
-        Check::Passed => find(samples, offset),
-        Check::Refused(r) => SampleCount::Refused(r),
-    }
+    check(samples)?;
+    Ok(find(samples, offset))
 }
 
 fn stored_totals(samples: &[u8]) -> SampleTotals
     requires { 8 ≤ length samples.now }
-    ensures { result ≡ SampleTotals.Of (total_offsets samples.now) (total_samples samples.now) }
+    ensures { Ok result ≡ given_sample_totals (total_offsets samples.now) (total_samples samples.now) }
 {
     let end = samples.len() - 8;
-    SampleTotals::Of {
-        offsets: le::packed_u32(samples, end) as u64,
-        samples: le::packed_u32(samples, end + 4) as u64,
+    SampleTotals {
+        offsets: le::load_u32(samples, end) as u64,
+        samples: le::load_u32(samples, end + 4) as u64,
     }
 }
 
 // The two totals: 1, 7, 11 and 20 first.
-pub fn totals(samples: &[u8]) -> SampleTotals
+pub fn totals(samples: &[u8]) -> Result<SampleTotals, Refusal>
     ensures { result ≡ sample_totals samples.now }
 {
-    let check = check(samples);
-    match check {
-        Check::Passed => stored_totals(samples),
-        Check::Refused(r) => SampleTotals::Refused(r),
-    }
+    check(samples)?;
+    Ok(stored_totals(samples))
 }

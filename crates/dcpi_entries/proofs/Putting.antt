@@ -1,5 +1,6 @@
 -- Loops that write entries: what is left to write, written over, gives the same at every turn. An entry that is written for a zero leaves
 -- no trace, since another is left to be written over it.
+use Rattle.refusal.specs.Check.{Passed}
 use Prim.Native.Nat.{ℕ, suc, ◌+◌, ◌-◌, ◌*◌, ◌%◌, ◌^◌, ◌≤◌, ◌<◌}
 use mathlib.Core.List.{List, [], ◌∷◌, ◌++◌, append_assoc}
 use mathlib.Core.Logic.{◌⊎◌, inl, inr}
@@ -7,13 +8,12 @@ use mathlib.Core.Path.{◌≡◌, refl, sym, ap, ◌∙◌}
 use native.Mathlib.Omega.{arith}
 use lib.ListN.{length, length-append}
 use Rattle.le.specs.Number.{number}
-use Rattle.refusal.specs.declared.Check.TheVariants.{Passed}
 use Rattle.buffer.specs.Over.{over}
 use Rattle.buffer.proofs.Laws.{over_none, over_append, over_again, length_over}
 use Rattle.dcpi.specs.Samples.{spacing, totals_at, Chunk, chunk_at, chunk_end, chunks, OffsetCount, counts_from, counts_of, counts_of_all, sample_counts, non_zero}
 use Rattle.dcpi.specs.Check.{chunks_check}
 use Rattle.dcpi.proofs.Chunks.{chunks_on, chunks_all, chunks_none, chunks_more}
-use Rattle.dcpi.proofs.Counts.{counts_after, count_at, after_none, after_more, after_all, nonzero_skip, nonzero_take, nonzero_append}
+use Rattle.dcpi.proofs.Counts.{counts_after, count_at, after_more, after_all, nonzero_skip, nonzero_take, nonzero_append}
 use Rattle.dcpi.proofs.Finding.{KeptOn, kept_start, kept_here, kept_next}
 use Rattle.dcpi_entries.specs.Entries.{entry_bytes, entries_of}
 use Rattle.dcpi_entries.proofs.Bytes.{length_entry, length_entries, entries_append}
@@ -46,14 +46,6 @@ module _ (profile metric : ℕ) where
       pub same_length : length out ≡ length was
       pub next_is : next + length (left_from i) * 24 ≡ at + length all * 24
       pub left : (rest : List ℕ) → at + length all * 24 + length rest ≡ end → over out next (entries (left_from i) ++ rest) ≡ over was at (entries all ++ rest)
-
-    pub putting_none : Putting was at 0
-    putting_none = record {
-      within = omega arith;
-      same_length = refl;
-      next_is = rw (after_none s place offset n);
-      left = λ rest e. rw (after_none s place offset n);
-    }
 
     module _ {out : List ℕ} {next i : ℕ} (h : Putting out next i) where
       -- at the end of the counts, or of the entries

@@ -1,4 +1,5 @@
 -- What is listed, in facts, and what comes of it through the writer: entries that were laid out are read as they were.
+use Rattle.std.specs.Prelude.{Err, Ok}
 use Prim.Native.Nat.{ℕ, ◌+◌, ◌*◌, ◌/◌, ◌^◌, ◌≤◌, ◌<◌}
 use mathlib.Core.Bool.{true}
 use mathlib.Core.List.{List, ◌++◌}
@@ -15,9 +16,8 @@ use Rattle.le.specs.Number.{number}
 use Rattle.le.proofs.Laws.{number_small}
 use Rattle.refusal.specs.declared.Refusal.{Refusal}
 use Rattle.refusal.specs.declared.Refusal.TheVariants as No
-use Rattle.refusal.specs.declared.Check.{Check}
 use Rattle.refusal.specs.Number.{number_of}
-use Rattle.refusal.specs.Check.{rule, if_passed}
+use Rattle.refusal.specs.Check.{rule, Check, Answer, on_answer, Passed}
 use Rattle.refusal.proofs.Checks.{rule_decides, first_decides, if_passed_answers, if_passed_refuses, first_passes}
 use Rattle.layout.specs.Octets.{Octets}
 use Rattle.buffer.proofs.Laws.{over_eq}
@@ -37,8 +37,6 @@ use Rattle.dcpi.specs.Check.{samples_check}
 use Rattle.dcpi.specs.Facts.{SamplesKept}
 use Rattle.dcpi.proofs.Offsets.{nonzero_in, in_nonzero, nonzero_rises}
 use Rattle.dcpi.proofs.Says.{sound_iff, check_says, has_count, sound_rises, offset_small}
-use Rattle.dcpi_entries.specs.declared.EntryCount.{EntryCount}
-use Rattle.dcpi_entries.specs.declared.EntryCount.TheVariants.{Of, Refused}
 use Rattle.dcpi_entries.specs.Entries.{entries_of, list_check, list_answer, list_entries}
 use Rattle.dcpi_entries.specs.Facts.{CountedAs, first_entries, EntriesSay, SentOn}
 use Rattle.dcpi_entries.proofs.Bytes.{length_entries}
@@ -75,7 +73,7 @@ module _ (s : List ℕ) (octets : Octets s) (profile metric : ℕ) (p-fits : pro
     abbrev check : Check
     check = list_check s (length lent)
 
-    abbrev answer : EntryCount
+    abbrev answer : Answer ℕ
     answer = list_answer s (length lent)
 
     abbrev after : List ℕ
@@ -90,7 +88,7 @@ module _ (s : List ℕ) (octets : Octets s) (profile metric : ℕ) (p-fits : pro
       λ l. le-leb (length xs) (length lent / 24) (omega arith),
     )
 
-    passed_iff : (check ≡ Check.Passed) ↔ (SamplesKept s × Room)
+    passed_iff : (check ≡ Passed) ↔ (SamplesKept s × Room)
     unfolding list_check
     passed_iff =
         let d = rule_decides (leb (length xs) (length lent / 24)) {own = No.Room} room_iff in
@@ -99,25 +97,25 @@ module _ (s : List ℕ) (octets : Octets s) (profile metric : ℕ) (p-fits : pro
           λ h. f.1 ((sound_iff s).1 h.0, d.passes.1 h.1),
         )
 
-    refused_iff : (r : Refusal) → (check ≡ Check.Refused r) ↔ ((samples_check s ≡ Check.Refused r) ⊎ (SamplesKept s × ((No.Room ≡ r) × (Room → ⊥))))
+    refused_iff : (r : Refusal) → (check ≡ Err r) ↔ ((samples_check s ≡ Err r) ⊎ (SamplesKept s × ((No.Room ≡ r) × (Room → ⊥))))
     unfolding list_check
     refused_iff r =
         (first_decides (samples_check s)
         (record { passes = sound_iff s; refuses = λ q. (λ e. e, λ e. e) })
         (rule_decides (leb (length xs) (length lent / 24)) room_iff)).refuses r
 
-    answered : (n : ℕ) → (answer ≡ Of n) ↔ ((check ≡ Check.Passed) × (Of (length xs) ≡ Of n))
+    answered : (n : ℕ) → (answer ≡ Ok n) ↔ ((check ≡ Passed) × (◌≡◌ {A = Answer ℕ} (Ok (length xs)) (Ok n)))
     unfolding list_answer
-    answered n = if_passed_answers Refused check (Of (length xs)) (Of n) (λ r e z. let q : ◌≡◌ {A = ℕ} 0 1 = cc in omega arith)
+    answered n = if_passed_answers Err check (Ok (length xs)) (Ok n) (λ r e z. let q : ◌≡◌ {A = ℕ} 0 1 = cc in omega arith)
 
-    not_answered : (r : Refusal) → (answer ≡ Refused r) ↔ (check ≡ Check.Refused r)
+    not_answered : (r : Refusal) → (answer ≡ Err r) ↔ (check ≡ Err r)
     unfolding list_answer
-    not_answered r = if_passed_refuses Refused check (Of (length xs)) r (λ z. let q : ◌≡◌ {A = ℕ} 0 1 = cc in omega arith) (λ t z. (cc))
+    not_answered r = if_passed_refuses Err check (Ok (length xs)) r (λ z. let q : ◌≡◌ {A = ℕ} 0 1 = cc in omega arith) (λ t z. (cc))
 
     -- ---- where it is answered
 
-    module _ (n : ℕ) (e : answer ≡ Of n) where
-      passed : check ≡ Check.Passed
+    module _ (n : ℕ) (e : answer ≡ Ok n) where
+      passed : check ≡ Passed
       passed = ((answered n).0 e).0
 
       kept : SamplesKept s × Room
@@ -127,7 +125,7 @@ module _ (s : List ℕ) (octets : Octets s) (profile metric : ℕ) (p-fits : pro
       n_is = let z = ((answered n).0 e).1 in (cc)
 
       after_is : after ≡ entries_of profile metric xs ++ drop (length (entries_of profile metric xs)) lent
-      unfolding list_entries if_passed
+      unfolding list_entries on_answer
       after_is =
           let l : length (entries_of profile metric xs) ≤ length lent = omega (arith, length_entries profile metric xs, kept.1) in
           rw passed (rw (zero-add (length (entries_of profile metric xs))) at (over_eq lent 0 (entries_of profile metric xs) (rw (zero-add (length (entries_of profile metric xs))) l)))
@@ -162,16 +160,16 @@ module _ (s : List ℕ) (octets : Octets s) (profile metric : ℕ) (p-fits : pro
       octets_are : Octets (first_entries n after)
       octets_are = rw first_is (octets_entries profile metric xs)
 
-    untouched_is : (r : Refusal) → answer ≡ Refused r → after ≡ lent
-    unfolding list_entries if_passed
+    untouched_is : (r : Refusal) → answer ≡ Err r → after ≡ lent
+    unfolding list_entries on_answer
     untouched_is r e = rw ((not_answered r).0 e)
 
-    not_room : (r : Refusal) → (r ≡ No.Room → ⊥) → (samples_check s ≡ Check.Refused r) ⊎ (SamplesKept s × ((No.Room ≡ r) × (Room → ⊥))) → samples_check s ≡ Check.Refused r
+    not_room : (r : Refusal) → (r ≡ No.Room → ⊥) → (samples_check s ≡ Err r) ⊎ (SamplesKept s × ((No.Room ≡ r) × (Room → ⊥))) → samples_check s ≡ Err r
     not_room r n (inl e) = e
     not_room r n (inr h) = absurd (n (sym h.1.0))
 
     -- 17 is none of the refusals of a section
-    only_room : (samples_check s ≡ Check.Refused No.Room) ⊎ (SamplesKept s × ((No.Room ≡ No.Room) × (Room → ⊥))) → SamplesKept s × (Room → ⊥)
+    only_room : (samples_check s ≡ Err No.Room) ⊎ (SamplesKept s × ((No.Room ≡ No.Room) × (Room → ⊥))) → SamplesKept s × (Room → ⊥)
     only_room (inl e) = absurd (never_17 ((check_says s).no_other No.Room e))
       where
         never_17 : (number_of No.Room ≡ 1) ⊎ ((number_of No.Room ≡ 7) ⊎ ((number_of No.Room ≡ 11) ⊎ (number_of No.Room ≡ 20))) → ⊥
@@ -185,7 +183,7 @@ module _ (s : List ℕ) (octets : Octets s) (profile metric : ℕ) (p-fits : pro
     entries_say = record {
       is-listed = λ n. (
         λ e. let k = kept n e in (k.0, (sym (n_is n e), omega (arith, k.1, n_is n e))),
-        λ h. (answered n).1 (passed_iff.1 (h.0, omega (arith, h.1.0, h.1.1)), ap Of (sym h.1.0)),
+        λ h. (answered n).1 (passed_iff.1 (h.0, omega (arith, h.1.0, h.1.1)), ap Ok (sym h.1.0)),
       );
       has_entry = has_is;
       ascending = ascending_is;
@@ -202,7 +200,7 @@ module _ (s : List ℕ) (octets : Octets s) (profile metric : ℕ) (p-fits : pro
 
     -- ---- through the writer
 
-    module _ (n : ℕ) (e : list_answer s (length lent) ≡ Of n) (profiles tuples identifiers file : List ℕ) (octets-i : Octets identifiers) (small : length file < 2 ^ 64) where
+    module _ (n : ℕ) (e : list_answer s (length lent) ≡ Ok n) (profiles tuples identifiers file : List ℕ) (octets-i : Octets identifiers) (small : length file < 2 ^ 64) where
       abbrev entries : List ℕ
       entries = first_entries n after
 

@@ -1,17 +1,14 @@
 -- "list the non-zero ones as entries for the writer of 2026-02, with profile and metric given and the offset as context; their number is
 -- the answer, later entries stay .. 17 if the lent entries are too few, with none written" (2026-06).
-use Rattle.std.specs.Prelude.{ℕ, ◌/◌, List, [], ◌∷◌, ◌++◌, leb, length}
+use Rattle.std.specs.Prelude.{ℕ, ◌/◌, List, [], ◌∷◌, ◌++◌, leb, length, Err, Ok}
 use Rattle.refusal.specs.declared.Refusal.TheVariants as No
-use Rattle.refusal.specs.declared.Check.{Check}
-use Rattle.refusal.specs.Check.{rule, first, if_passed}
-use Rattle.refusal.specs.Words.{refused_words}
+use Rattle.refusal.specs.Check.{rule, first, if_passed, Check, Answer}
+use Rattle.refusal.specs.Words.{number_words}
 use Rattle.layout.specs.Bytes.{◌is◌, fields}
 use Rattle.buffer.specs.Over.{over}
 use Rattle.float.specs.Float.{integer_bits}
 use Rattle.dcpi.specs.Samples.{OffsetCount, sample_counts, non_zero}
 use Rattle.dcpi.specs.Check.{samples_check}
-use Rattle.dcpi_entries.specs.declared.EntryCount.{EntryCount}
-use Rattle.dcpi_entries.specs.declared.EntryCount.TheVariants.{Of, Refused}
 
 -- an entry has 24 bytes: profile, context, metric, six of 0, and the bits of the count as a float
 unfoldable pub entry_bytes : (profile metric : ℕ) → OffsetCount → List ℕ
@@ -27,8 +24,8 @@ unfoldable pub list_check : List ℕ → (room : ℕ) → Check
 list_check s room = first (samples_check s) (rule (leb (length (non_zero (sample_counts s))) (room / 24)) No.Room)
 
 -- how many entries there are, or the refusal
-unfoldable pub list_answer : List ℕ → (room : ℕ) → EntryCount
-list_answer s room = if_passed Refused (list_check s room) (Of (length (non_zero (sample_counts s))))
+unfoldable pub list_answer : List ℕ → (room : ℕ) → Answer ℕ
+list_answer s room = if_passed Err (list_check s room) (Ok (length (non_zero (sample_counts s))))
 
 -- the lent bytes afterwards
 unfoldable pub list_entries : List ℕ → (profile metric : ℕ) (entries : List ℕ) → List ℕ
@@ -36,6 +33,5 @@ list_entries s profile metric entries =
     if_passed (λ r. entries) (list_check s (length entries)) (over entries 0 (entries_of profile metric (non_zero (sample_counts s))))
 
 -- an answer in words: its number, then how many entries there are
-unfoldable pub entry_count_words : EntryCount → List ℕ
-entry_count_words (Of n) = 0 ∷ n ∷ []
-entry_count_words (Refused r) = refused_words r
+abbrev pub entry_count_words : Answer ℕ → List ℕ
+entry_count_words a = number_words a

@@ -2,21 +2,14 @@
 #![tactic(auto)]
 
 ghost use Rattle.std.specs.Prelude.{List, ◌++◌, ◌≡◌, ℕ, ◌+◌, ◌-◌, ◌*◌, ◌%◌, ◌^◌, ◌≤◌, ◌<◌, length};
-ghost use Rattle.refusal.specs.declared.Check.TheVariants as Check;
+ghost use Rattle.refusal.specs.Check.{Passed};
 ghost use Rattle.buffer.specs.Over.{over};
 ghost use Rattle.dcpi.specs.Samples.{spacing, counts_from, sample_counts, non_zero};
 ghost use Rattle.dcpi.specs.Check.{samples_check};
 ghost use Rattle.dcpi_entries.specs.Entries.{entry_bytes, entries_of, list_answer, list_entries};
 
-use dcpi::{SPACING, SampleTotals};
+use dcpi::SPACING;
 use refusal::Refusal;
-
-// How many entries there are, or the refusal.
-#[derive(Clone, Copy)]
-pub enum EntryCount {
-    Of(u64),
-    Refused(refusal::Refusal),
-}
 
 // What the entries have in common.
 #[derive(Clone, Copy)]
@@ -56,24 +49,25 @@ fn put_counts(
     ensures next { result ≡ at + length (non_zero (counts_from samples.now place offset n)) * 24 }
     ensures bytes { (rest : List ℕ) → result + length rest ≡ end → over entries.new result rest ≡ over entries.old at (entries_of series.profile series.metric (non_zero (counts_from samples.now place offset n)) ++ rest) }
 {
-    let mut i: usize = 0;
     let mut next = at;
-    while (i < n) & (next < end) {
-        let count = le::packed_u32(samples, place + i * 4);
+    for i in 0..n {
+        if next == end {
+            return next;
+        }
+        let count = le::load_u32(samples, place + i * 4);
         let here = offset + i as u64 * SPACING;
         put_entry(entries, next, series, here as u32, count);
         let listed = count != 0;
         if listed {
             next += 24;
         }
-        i += 1;
     }
     next
 }
 
 // Those of all chunks, `count` of them, of a section that keeps the rules.
 fn put_chunks(entries: &mut [u8], series: Series, samples: &[u8], count: u64)
-    requires samples_value { samples_check samples.now ≡ Check.Passed }
+    requires samples_value { samples_check samples.now ≡ Passed }
     requires count_value { count ≡ length (non_zero (sample_counts samples.now)) }
     requires count_in_bounds { count * 24 ≤ length entries.old }
     ensures { entries.new ≡ over entries.old 0 (entries_of series.profile series.metric (non_zero (sample_counts samples.now))) }
@@ -83,30 +77,22 @@ fn put_chunks(entries: &mut [u8], series: Series, samples: &[u8], count: u64)
     let mut p: usize = 0;
     let mut next: usize = 0;
     while p < totals {
-        let offset = le::packed_u32(samples, p) as u64;
-        let size = le::packed_u32(samples, p + 4) as usize;
+        let offset = le::load_u32(samples, p) as u64;
+        let size = le::load_u32(samples, p + 4) as usize;
         next = put_counts(entries, next, end, series, samples, p + 8, offset, size);
         p = p + 8 + size * 4;
     }
 }
 
-// The non-zero counts as entries: 1, 7, 11, 20, and then 17.
-pub fn list(samples: &[u8], profile: u32, metric: u16, entries: &mut [u8]) -> EntryCount
+// The non-zero counts as entries, how many there are: 1, 7, 11, 20, and then 17.
+pub fn list(samples: &[u8], profile: u32, metric: u16, entries: &mut [u8]) -> Result<u64, Refusal>
     ensures answer { result ≡ list_answer samples.now (length entries.old) }
     ensures bytes { entries.new ≡ list_entries samples.now profile metric entries.old }
 {
-    let totals = dcpi::totals(samples);
-    match totals {
-        SampleTotals::Of {
-            offsets,
-            samples: _,
-        } => {
-            if (entries.len() as u64 / 24) < offsets {
-                return EntryCount::Refused(Refusal::Room);
-            }
-            put_chunks(entries, Series { profile, metric }, samples, offsets);
-            EntryCount::Of(offsets)
-        }
-        SampleTotals::Refused(r) => EntryCount::Refused(r),
+    let count = dcpi::totals(samples)?.offsets;
+    if (entries.len() as u64 / 24) < count {
+        return Err(Refusal::Room);
     }
+    put_chunks(entries, Series { profile, metric }, samples, count);
+    Ok(count)
 }

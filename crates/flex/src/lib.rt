@@ -1,9 +1,9 @@
 // Flex words: which fields are present, and where.
 #![tactic(auto)]
 
-ghost use Rattle.std.specs.Prelude.{◌≡◌};
+ghost use Rattle.std.specs.Prelude.{◌≡◌, ◌<◌};
 ghost use Rattle.flex.specs.Names as Flex;
-ghost use Rattle.flex.specs.Packing.{is_present, before, place, words};
+ghost use Rattle.flex.specs.Packing.{bit, is_present, before, place, words};
 
 // The fields, in packing order.
 pub const FUNCTION: u64 = 0;
@@ -19,28 +19,39 @@ pub const OFFSET: u64 = 4;
 // How many they are.
 const FIELDS: u64 = 5;
 
+#[tactic(auto, unfolding(crate::specs::Packing::bit))]
+fn bit(flags: u8, b: u32) -> bool
+    requires { b < 8 }
+    ensures { result ≡ bit flags b }
+{
+    (flags >> b) % 2 == 1
+}
+
 // Bit 0 brings the function.
+#[tactic(auto, unfolding(crate::specs::Packing::is_present, crate::specs::Packing::presence))]
 pub fn has_function(flags: u8) -> bool
     ensures { result ≡ is_present flags Flex.function }
 {
-    flags % 2 == 1
+    bit(flags, 0)
 }
 
 // Bit 1 brings file and line.
+#[tactic(auto, unfolding(crate::specs::Packing::is_present, crate::specs::Packing::presence))]
 pub fn has_source(flags: u8) -> bool
     ensures { (result ≡ is_present flags Flex.file) × (result ≡ is_present flags Flex.line) }
 {
-    flags / 2 % 2 == 1
+    bit(flags, 1)
 }
 
 // Bit 2 brings module and offset.
+#[tactic(auto, unfolding(crate::specs::Packing::is_present, crate::specs::Packing::presence))]
 pub fn has_point(flags: u8) -> bool
     ensures { (result ≡ is_present flags Flex.load_module) × (result ≡ is_present flags Flex.offset) }
 {
-    flags / 4 % 2 == 1
+    bit(flags, 2)
 }
 
-// How many present fields stand before one.
+// How many present fields stand before one. By sums of bits: a count over a table of the packing stays a loop.
 fn before(flags: u8, field: u64) -> usize
     ensures { result ≡ before flags field }
 {

@@ -1,5 +1,8 @@
 -- What the answer of a function says, in facts: the function is there and keeps its links, and then a place of 0 is no name, and any other
 -- is that of a string, which decides.
+use Rattle.std.specs.Prelude.{Err, Ok}
+use Rattle.text.specs.declared.Text.{Text}
+use Rattle.function.specs.declared.Function.{Function}
 use Prim.Native.Nat.{ℕ, ◌+◌}
 use mathlib.Core.Bool.{Bool, true, false, not, ◌&&◌, ◌||◌, true≢false}
 use mathlib.Core.List.{List, []}
@@ -16,28 +19,24 @@ use Rattle.range.proofs.Tests.{both, unless}
 use Rattle.refusal.specs.declared.Refusal.{Refusal}
 use Rattle.refusal.specs.declared.Refusal.TheVariants as No
 use Rattle.refusal.specs.Number.{number_of}
-use Rattle.refusal.specs.Check.{either, rule}
-use Rattle.refusal.specs.declared.Check.TheVariants as check
+use Rattle.refusal.specs.Check.{either, rule, Answer, on_answer}
 use Rattle.refusal.proofs.Checks.{rule_passes, rule_decides, if_passed_answers}
 use Rattle.refusal.proofs.Numbers.{positive, small, same_number}
 use Rattle.open.specs.Format.{meta}
 use Rattle.open.specs.Names as Section
 use Rattle.open.proofs.Given.{on_opened_answers}
 use Rattle.utf8.specs.Encoding.{encodings, Encoded}
-use Rattle.text.specs.declared.Text.{Text}
-use Rattle.text.specs.declared.Text.TheVariants as text
-use Rattle.text.specs.String.{string_at, on_text}
+use Rattle.text.specs.String.{string_at, given_text}
 use Rattle.text.specs.Facts.{HasText}
-use Rattle.text.proofs.Facts.{string_says}
+use Rattle.refusal.proofs.Checks.{ok_same, err_same}
+use Rattle.text.proofs.Facts.{text_fields, string_says}
 use Rattle.text.proofs.Says.{OfString, 8-of-string, 19-of-string}
 use Rattle.array.specs.declared.Array.{Array}
 use Rattle.array.specs.Element.{linked}
 use Rattle.array.proofs.Links.{linked_iff}
 use Rattle.array.proofs.Bounds.{on_element_answers}
 use Rattle.meta.specs.Facts.{section_of, array_at}
-use Rattle.function.specs.declared.Function.{Function}
-use Rattle.function.specs.declared.Function.TheVariants.{Found, Refused}
-use Rattle.function.specs.Function.{links_kept, name_text, function_of, function_in, function_at, name_bytes, name_which}
+use Rattle.function.specs.Function.{links_kept, name_text, function_of, function_in, function_at, name_bytes, name_which, given_function}
 use Rattle.function.specs.Facts.{LinkKept, function_place, p_name, p_module, p_file, FunctionThere, name_string, FoundSays, FunctionSays, NameSays}
 
 -- ---- the links
@@ -66,45 +65,43 @@ none_iff p q r = (
 -- ---- the name among the other fields
 
 module _ (m o f l : ℕ) where
-  abbrev with_name : Text → Function
-  with_name t = on_text Refused t (λ name n. Found name n m o f l)
+  abbrev with_name : Answer Text → Answer Function
+  with_name t = on_answer Err t (λ t. given_function t.place t.length m o f l)
 
-  fields_iff : (t : Text) (name n m₁ o₁ f₁ l₁ : ℕ)
-      → (with_name t ≡ Found name n m₁ o₁ f₁ l₁) ↔ ((t ≡ text.At name n) × ((m₁ ≡ m) × ((o₁ ≡ o) × ((f₁ ≡ f) × (l₁ ≡ l)))))
-  unfolding on_text
-  fields_iff (text.At p k) name n m₁ o₁ f₁ l₁ = (
-    λ e.
-        let a : p ≡ name = cc in
-        let b : k ≡ n = cc in
-        let c : m₁ ≡ m = cc in
-        let d : o₁ ≡ o = cc in
-        let g : f₁ ≡ f = cc in
-        let h : l₁ ≡ l = cc in
-        (rw (a, b), (c, (d, (g, h)))),
-    λ h.
-        let e = h.0 in
-        let a : p ≡ name = cc in
-        let b : k ≡ n = cc in
-        rw (a, b, h.1.0, h.1.1.0, h.1.1.1.0, h.1.1.1.1),
+  fields_iff : (t : Answer Text) (name n m₁ o₁ f₁ l₁ : ℕ)
+      → (with_name t ≡ given_function name n m₁ o₁ f₁ l₁) ↔ ((t ≡ given_text name n) × ((m₁ ≡ m) × ((o₁ ≡ o) × ((f₁ ≡ f) × (l₁ ≡ l)))))
+  unfolding on_answer
+  fields_iff (Ok it) name n m₁ o₁ f₁ l₁ = (
+    λ e. let same = ok_same e in (
+      ap (λ (x : Function). Ok x.name) same,
+      (
+        ap (λ (x : Function). x.load_module) (sym same),
+        (
+          ap (λ (x : Function). x.offset) (sym same),
+          (ap (λ (x : Function). x.file) (sym same), ap (λ (x : Function). x.line) (sym same)),
+        ),
+      ),
+    ),
+    λ h. let a = text_fields h.0 in rw (a.0, a.1, h.1.0, h.1.1.0, h.1.1.1.0, h.1.1.1.1),
   )
-  fields_iff (text.Refused r) name n m₁ o₁ f₁ l₁ = (
+  fields_iff (Err r) name n m₁ o₁ f₁ l₁ = (
     λ e. absurd (let z : ◌≡◌ {A = ℕ} 0 1 = cc in omega arith),
     λ h. absurd (let e = h.0 in let z : ◌≡◌ {A = ℕ} 0 1 = cc in omega arith),
   )
 
-  name_refused_iff : (t : Text) (r : Refusal) → (with_name t ≡ Refused r) ↔ (t ≡ text.Refused r)
-  unfolding on_text
-  name_refused_iff (text.At p k) r = (
+  name_refused_iff : (t : Answer Text) (r : Refusal) → (with_name t ≡ Err r) ↔ (t ≡ Err r)
+  unfolding on_answer
+  name_refused_iff (Ok it) r = (
     λ e. absurd (let z : ◌≡◌ {A = ℕ} 0 1 = cc in omega arith),
     λ e. absurd (let z : ◌≡◌ {A = ℕ} 0 1 = cc in omega arith),
   )
-  name_refused_iff (text.Refused s) r = (λ e. let z : s ≡ r = cc in ap text.Refused z, λ e. let z : s ≡ r = cc in ap Refused z)
+  name_refused_iff (Err s) r = (λ e. let z : s ≡ r = cc in ap Err z, λ e. let z : s ≡ r = cc in ap Err z)
 
-found_of_string : (name n m o f l : ℕ) → OfString Refused (Found name n m o f l)
+found_of_string : (name n m o f l : ℕ) → OfString Err (given_function name n m o f l)
 found_of_string name n m o f l r k h e = let z : ◌≡◌ {A = ℕ} 0 1 = cc in omega arith
 
-same_refused : (r s : Refusal) → Refused r ≡ Refused s → r ≡ s
-same_refused r s e = cc
+same_refused : (r s : Refusal) → ◌≡◌ {A = Answer Function} (Err r) (Err s) → r ≡ s
+same_refused r s e = err_same e
 
 -- ---- function i of a file
 
@@ -130,7 +127,7 @@ module _ (file : List ℕ) (i : ℕ) where
   abbrev line : ℕ
   line = number 4 file (function_place file i + 32)
 
-  abbrev fields_with : Text → Function
+  abbrev fields_with : Answer Text → Answer Function
   fields_with = with_name (p_module file i) offset (p_file file i) line
 
   links_iff : (links_test ≡ true)
@@ -150,14 +147,14 @@ module _ (file : List ℕ) (i : ℕ) where
       )
 
   -- the name is read exactly if the function is there
-  name_read : (y : Function) → OfString Refused y → (function_at file i ≡ y) ↔ (FunctionThere file i × (fields_with (name_text file strings place) ≡ y))
+  name_read : (y : Answer Function) → OfString Err y → (function_at file i ≡ y) ↔ (FunctionThere file i × (fields_with (name_text file strings place) ≡ y))
   unfolding function_at function_of
   name_read y o =
-      let opened = on_opened_answers Refused meta file (λ ps. function_in file ps i) y (λ r k. o r (λ z. omega arith) (λ z. omega arith)) in
+      let opened = on_opened_answers Err meta file (λ ps. function_in file ps i) y (λ r k. o r (λ z. omega arith) (λ z. omega arith)) in
       let element =
-      on_element_answers (array_at file Section.functions) i Refused (λ at. function_of file strings modules files at) y
+      on_element_answers (array_at file Section.functions) i Err (λ at. function_of file strings modules files at) y
       (o No.Index (λ z. omega arith) (λ z. omega arith)) in
-      let links = if_passed_answers Refused (rule links_test No.Link) (fields_with (name_text file strings place)) y by_9 in (
+      let links = if_passed_answers Err (rule links_test No.Link) (fields_with (name_text file strings place)) y by_9 in (
         λ e.
             let a = opened.0 e in
             let b = element.0 a.1 in
@@ -171,12 +168,12 @@ module _ (file : List ℕ) (i : ℕ) where
       )
     where
       -- a broken link gives 9
-      by_9 : (r : Refusal) → rule links_test No.Link ≡ check.Refused r → Refused r ≡ y → ⊥
+      by_9 : (r : Refusal) → rule links_test No.Link ≡ Err r → Err r ≡ y → ⊥
       by_9 r k = let nine = ap number_of (((rule_decides links_test links_iff).refuses r).0 k).0 in o r (λ z. omega (arith, nine)) (λ z. omega (arith, nine))
 
   -- ---- a place of 0, and any other
 
-  no_text : place ≡ 0 → name_text file strings place ≡ text.At 0 0
+  no_text : place ≡ 0 → name_text file strings place ≡ given_text 0 0
   unfolding name_text either
   no_text e = rw (eq-eqb place 0 e)
 
@@ -184,7 +181,7 @@ module _ (file : List ℕ) (i : ℕ) where
   unfolding name_text either
   some_text n = rw (ne_eqb place 0 n)
 
-  text_iff : (name n : ℕ) → (name_text file strings place ≡ text.At name n)
+  text_iff : (name n : ℕ) → (name_text file strings place ≡ given_text name n)
       ↔ ((name ≡ place) × (((place ≡ 0) × (n ≡ 0)) ⊎ ((place ≡ 0 → ⊥) × HasText file (name_string file i) n)))
   text_iff name n =
       let says = string_says file strings place in (
@@ -196,9 +193,8 @@ module _ (file : List ℕ) (i : ℕ) where
           | no l ↦
               let none : place ≡ 0 = omega arith in
               let t = sym (no_text none) ∙ e in
-              let y : 0 ≡ name = cc in
-              let z : 0 ≡ n = cc in
-              (sym y ∙ sym none, inl (none, sym z))
+              let f = text_fields t in
+              (sym f.0 ∙ sym none, inl (none, sym f.1))
         ],
         λ h. elim h.1 [
           | inl none ↦ no_text none.0 ∙ rw (h.0, none.0, none.1)
@@ -206,7 +202,7 @@ module _ (file : List ℕ) (i : ℕ) where
         ],
       )
 
-  refused_text : (r : Refusal) → (name_text file strings place ≡ text.Refused r) ↔ ((place ≡ 0 → ⊥) × (string_at file strings place ≡ text.Refused r))
+  refused_text : (r : Refusal) → (name_text file strings place ≡ Err r) ↔ ((place ≡ 0 → ⊥) × (string_at file strings place ≡ Err r))
   refused_text r = (
     λ e. elim (dec_lt 0 place) [
       | yes l ↦ let some : place ≡ 0 → ⊥ = λ z. omega arith in (some, sym (some_text some) ∙ e)
@@ -217,9 +213,9 @@ module _ (file : List ℕ) (i : ℕ) where
 
   -- ---- all of it
 
-  function_found : (name n m o f l : ℕ) → (function_at file i ≡ Found name n m o f l) ↔ FoundSays file i name n m o f l
+  function_found : (name n m o f l : ℕ) → (function_at file i ≡ given_function name n m o f l) ↔ FoundSays file i name n m o f l
   function_found name n m o f l =
-      let read = name_read (Found name n m o f l) (found_of_string name n m o f l) in
+      let read = name_read (given_function name n m o f l) (found_of_string name n m o f l) in
       let fields = fields_iff (p_module file i) offset (p_file file i) line (name_text file strings place) name n m o f l in (
         λ e.
             let h = read.0 e in
@@ -239,10 +235,10 @@ module _ (file : List ℕ) (i : ℕ) where
             read.1 (h.there, fields.1 (t, (h.its_module, (h.its_offset, (h.its_file, h.its_line))))),
       )
 
-  string_refused : (r : Refusal) → OfString Refused (Refused r)
-      → (function_at file i ≡ Refused r) ↔ ((FunctionThere file i × (place ≡ 0 → ⊥)) × (string_at file strings place ≡ text.Refused r))
+  string_refused : (r : Refusal) → OfString {A = Answer Function} Err (Err r)
+      → (function_at file i ≡ Err r) ↔ ((FunctionThere file i × (place ≡ 0 → ⊥)) × (string_at file strings place ≡ Err r))
   string_refused r o =
-      let read = name_read (Refused r) o in
+      let read = name_read (Err r) o in
       let so = name_refused_iff (p_module file i) offset (p_file file i) line (name_text file strings place) r in (
         λ e. let h = read.0 e in let t = (refused_text r).0 (so.0 h.1) in ((h.0, t.0), t.1),
         λ h. read.1 (h.0.0, so.1 ((refused_text r).1 (h.0.1, h.1))),
@@ -254,31 +250,31 @@ module _ (file : List ℕ) (i : ℕ) where
       record {
         found = function_found;
         is_8 = (
-          λ e. let h = (string_refused No.String (8-of-string Refused same_refused)).0 e in (h.0, (says.is_8.0 h.1).1),
-          λ h. (string_refused No.String (8-of-string Refused same_refused)).1 (h.0, says.is_8.1 (tt, h.1)),
+          λ e. let h = (string_refused No.String (8-of-string Err same_refused)).0 e in (h.0, (says.is_8.0 h.1).1),
+          λ h. (string_refused No.String (8-of-string Err same_refused)).1 (h.0, says.is_8.1 (tt, h.1)),
         );
         is_19 = (
-          λ e. let h = (string_refused No.Spelling (19-of-string Refused same_refused)).0 e in (h.0, (says.is_19.0 h.1).1),
-          λ h. (string_refused No.Spelling (19-of-string Refused same_refused)).1 (h.0, says.is_19.1 (tt, h.1)),
+          λ e. let h = (string_refused No.Spelling (19-of-string Err same_refused)).0 e in (h.0, (says.is_19.0 h.1).1),
+          λ h. (string_refused No.Spelling (19-of-string Err same_refused)).1 (h.0, says.is_19.1 (tt, h.1)),
         );
       }
 
 -- ---- how the name is handed back
 
-which_refused : (a : Function) (r : Refusal) → (name_which a ≡ number_of r) ↔ (a ≡ Refused r)
+which_refused : (a : Answer Function) (r : Refusal) → (name_which a ≡ number_of r) ↔ (a ≡ Err r)
 unfolding name_which either
-which_refused (Found name n m o f l) r = (λ e. absurd (never (eqb name 0) e), λ e. absurd (let z : ◌≡◌ {A = ℕ} 0 1 = cc in omega arith))
+which_refused (Ok it) r = (λ e. absurd (never (eqb it.name.place 0) e), λ e. absurd (let z : ◌≡◌ {A = ℕ} 0 1 = cc in omega arith))
   where
     never : (t : Bool) → ◌≡◌ {A = ℕ} (either t 100 0) (number_of r) → ⊥
     never true e = omega (arith, small r)
     never false e = omega (arith, positive r)
-which_refused (Refused s) r = (λ e. ap Refused (same_number s r e), λ e. let z : s ≡ r = cc in ap number_of z)
+which_refused (Err s) r = (λ e. ap Err (same_number s r e), λ e. let z : s ≡ r = cc in ap number_of z)
 
 module _ (file : List ℕ) (i : ℕ) where
   -- the answer with a name, and without
   pub found_named : (n : ℕ) → (name_string file i).Read → HasText file (name_string file i) n
       → function_at file i
-      ≡ Found (p_name file i) n (p_module file i) (offset file i) (p_file file i) (line file i)
+      ≡ given_function (p_name file i) n (p_module file i) (offset file i) (p_file file i) (line file i)
   found_named n read text =
       ((function_says file i).found _ _ _ _ _ _).1 (record {
         there = read.0;
@@ -291,7 +287,7 @@ module _ (file : List ℕ) (i : ℕ) where
       })
 
   pub found_unnamed : FunctionThere file i → p_name file i ≡ 0
-      → function_at file i ≡ Found 0 0 (p_module file i) (offset file i) (p_file file i) (line file i)
+      → function_at file i ≡ given_function 0 0 (p_module file i) (offset file i) (p_file file i) (line file i)
   found_unnamed there none =
       ((function_says file i).found _ _ _ _ _ _).1 (record {
         there = there;
@@ -304,38 +300,39 @@ module _ (file : List ℕ) (i : ℕ) where
       })
 
   -- 0 says that there is a name, and 100 that there is none
-  told_0 : (a : Function) → function_at file i ≡ a → name_which a ≡ 0
+  told_0 : (a : Answer Function) → function_at file i ≡ a → name_which a ≡ 0
       → (name_string file i).Read × ((n : ℕ) × HasText file (name_string file i) n)
   unfolding name_which either
-  told_0 (Found name n m o f l) e w = go (eqb name 0) refl w (((function_says file i).found name n m o f l).0 e)
+  told_0 (Ok it) e w = go (eqb it.name.place 0) refl w (((function_says file i).found it.name.place it.name.length it.load_module it.offset it.file it.line).0 e)
     where
-      go : (t : Bool) → eqb name 0 ≡ t → ◌≡◌ {A = ℕ} (either t 100 0) 0 → FoundSays file i name n m o f l
+      go : (t : Bool) → eqb it.name.place 0 ≡ t → ◌≡◌ {A = ℕ} (either t 100 0) 0 → FoundSays file i it.name.place it.name.length it.load_module it.offset it.file it.line
           → (name_string file i).Read × ((k : ℕ) × HasText file (name_string file i) k)
       go true z w h = absurd (omega arith)
       go false z w h = elim h.its_length [
-        | inl none ↦ absurd (eqb-false name 0 z (h.its-name ∙ none.0))
-        | inr some ↦ ((h.there, some.0), (n, some.1))
+        | inl none ↦ absurd (eqb-false it.name.place 0 z (h.its-name ∙ none.0))
+        | inr some ↦ ((h.there, some.0), (it.name.length, some.1))
       ]
-  told_0 (Refused r) e w = absurd (omega (arith, positive r))
+  told_0 (Err r) e w = absurd (omega (arith, positive r))
 
-  told_100 : (a : Function) → function_at file i ≡ a → name_which a ≡ 100 → FunctionThere file i × (p_name file i ≡ 0)
+  told_100 : (a : Answer Function) → function_at file i ≡ a → name_which a ≡ 100 → FunctionThere file i × (p_name file i ≡ 0)
   unfolding name_which either
-  told_100 (Found name n m o f l) e w = go (eqb name 0) refl w (((function_says file i).found name n m o f l).0 e)
+  told_100 (Ok it) e w = go (eqb it.name.place 0) refl w (((function_says file i).found it.name.place it.name.length it.load_module it.offset it.file it.line).0 e)
     where
-      go : (t : Bool) → eqb name 0 ≡ t → ◌≡◌ {A = ℕ} (either t 100 0) 100 → FoundSays file i name n m o f l → FunctionThere file i × (p_name file i ≡ 0)
-      go true z w h = (h.there, sym h.its-name ∙ eqb-true name 0 z)
+      go : (t : Bool) → eqb it.name.place 0 ≡ t → ◌≡◌ {A = ℕ} (either t 100 0) 100
+          → FoundSays file i it.name.place it.name.length it.load_module it.offset it.file it.line → FunctionThere file i × (p_name file i ≡ 0)
+      go true z w h = (h.there, sym h.its-name ∙ eqb-true it.name.place 0 z)
       go false z w h = absurd (omega arith)
-  told_100 (Refused r) e w = absurd (omega (arith, small r))
+  told_100 (Err r) e w = absurd (omega (arith, small r))
 
   -- what is neither 0 nor 100 is a refusal's
-  told_else : (placeholder : List ℕ) (a : Function) → (name_which a ≡ 0 → ⊥) → (name_which a ≡ 100 → ⊥) → name_bytes file placeholder a ≡ []
+  told_else : (placeholder : List ℕ) (a : Answer Function) → (name_which a ≡ 0 → ⊥) → (name_which a ≡ 100 → ⊥) → name_bytes file placeholder a ≡ []
   unfolding name_which name_bytes either
-  told_else placeholder (Found name n m o f l) x y = go (eqb name 0) x y
+  told_else placeholder (Ok it) x y = go (eqb it.name.place 0) x y
     where
-      go : (t : Bool) → (◌≡◌ {A = ℕ} (either t 100 0) 0 → ⊥) → (◌≡◌ {A = ℕ} (either t 100 0) 100 → ⊥) → either t placeholder (take n (drop name file)) ≡ []
+      go : (t : Bool) → (◌≡◌ {A = ℕ} (either t 100 0) 0 → ⊥) → (◌≡◌ {A = ℕ} (either t 100 0) 100 → ⊥) → either t placeholder (take it.name.length (drop it.name.place file)) ≡ []
       go true x y = absurd (y refl)
       go false x y = absurd (x refl)
-  told_else placeholder (Refused r) x y = refl
+  told_else placeholder (Err r) x y = refl
 
   module _ (placeholder : List ℕ) where
     its_bytes : (n : ℕ) → (name_string file i).Read → HasText file (name_string file i) n

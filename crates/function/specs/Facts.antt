@@ -1,5 +1,5 @@
 -- A function's name as facts: when it is read, handed back, refused, or missing.
-use Rattle.std.specs.Prelude.{ℕ, ◌+◌, ◌<◌, List, [], ◌↔◌, ◌⊎◌, ◌≡◌}
+use Rattle.std.specs.Prelude.{ℕ, ◌+◌, ◌<◌, List, [], ◌↔◌, ◌⊎◌, ◌≡◌, Err}
 use Rattle.le.specs.Number.{number}
 use Rattle.refusal.specs.declared.Refusal.TheVariants as No
 use Rattle.open.specs.Format.{meta}
@@ -9,8 +9,7 @@ use Rattle.utf8.specs.Encoding.{Encoded}
 use Rattle.text.specs.Facts.{Sited, string_bytes, HasText, NoString, NotEncoded, CodeSays}
 use Rattle.array.specs.declared.Array.{Array}
 use Rattle.meta.specs.Facts.{section_of, array_at, element_place}
-use Rattle.function.specs.declared.Function.TheVariants.{Found, Refused}
-use Rattle.function.specs.Function.{function_at, name_bytes, name_which}
+use Rattle.function.specs.Function.{function_at, name_bytes, name_which, given_function}
 
 -- a link is 0, or the place of an element
 abbrev pub LinkKept : Array → (place : ℕ) → Type 0
@@ -52,9 +51,9 @@ module _ (file : List ℕ) (i : ℕ) where
 
   pub record FunctionSays : Type 0 where
     pub found : (name n module-link offset file-link line : ℕ)
-        → (function_at file i ≡ Found name n module-link offset file-link line) ↔ FoundSays name n module-link offset file-link line
-    pub is_8 : (function_at file i ≡ Refused No.String) ↔ NoString file name_string
-    pub is_19 : (function_at file i ≡ Refused No.Spelling) ↔ NotEncoded file name_string
+        → (function_at file i ≡ given_function name n module-link offset file-link line) ↔ FoundSays name n module-link offset file-link line
+    pub is_8 : (function_at file i ≡ Err No.String) ↔ NoString file name_string
+    pub is_19 : (function_at file i ≡ Err No.Spelling) ↔ NotEncoded file name_string
 
   -- the name as bytes, with the placeholder that is given, and which of them
   module _ (placeholder : List ℕ) where

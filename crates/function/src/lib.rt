@@ -1,29 +1,32 @@
 // meta.db: functions.
 #![tactic(auto)]
 
-ghost use Rattle.std.specs.Prelude.{◌≡◌, ◌+◌};
+ghost use Rattle.std.specs.Prelude.{◌≡◌, ◌+◌, IfOk};
 ghost use Rattle.le.specs.Number.{number};
 ghost use Rattle.open.specs.Format.{meta};
 ghost use Rattle.open.specs.Kept.{Sections};
-ghost use Rattle.function.specs.Function.{links_kept, name_text, function_of, function_in, function_at, name_bytes, name_which};
+ghost use Rattle.function.specs.Function.{links_kept, name_text, function_of, function_in, function_at, name_bytes, name_which, bytes_of, which_of};
 
-use array::{Array, Element};
+use array::Array;
 use open::{FILES, FUNCTIONS, MODULES, STRINGS};
-use refusal::{Check, Refusal};
+use refusal::Refusal;
 use text::Text;
 
 // A function. Its name's place is 0 exactly if it has none; a link is 0 or the place of a module or file.
 #[derive(Clone, Copy)]
-pub enum Function {
-    Found {
-        name: u64,
-        length: u64,
-        module: u64,
-        offset: u64,
-        file: u64,
-        line: u64,
-    },
-    Refused(refusal::Refusal),
+pub struct Function {
+    pub name: Text,
+    pub load_module: u64,
+    pub offset: u64,
+    pub file: u64,
+    pub line: u64,
+}
+
+// Its name: a part of the file, or where it has none the placeholder.
+#[derive(Clone, Copy)]
+pub enum Name<'a> {
+    Stored(&'a [u8]),
+    Placeholder(&'a [u8]),
 }
 
 // 9, of the links.
@@ -38,20 +41,26 @@ fn links_kept(modules: Array, files: Array, name: u64, module_link: u64, file_li
 
 // 8, then 19, of a name that is there. Its place is read again, by the function that every other string goes through: one caller of
 // `text::find` is what lets the compiler put it in.
-fn name_text(file: &[u8], strings: [u64; 2], at: u64) -> Text
+fn name_text(file: &[u8], strings: [u64; 2], at: u64) -> Result<Text, Refusal>
     ensures { result ≡ name_text file.now strings (number 8 file.now (at + 0)) }
 {
     if le::u64_at(file, at, 0) == 0 {
-        return Text::At {
+        return Ok(Text {
             place: 0,
             length: 0,
-        };
+        });
     }
     meta::string_of(file, strings, at, 0)
 }
 
 // The function at a place: its links, then its name.
-fn function_of(file: &[u8], strings: [u64; 2], modules: Array, files: Array, at: u64) -> Function
+fn function_of(
+    file: &[u8],
+    strings: [u64; 2],
+    modules: Array,
+    files: Array,
+    at: u64,
+) -> Result<Function, Refusal>
     ensures { result ≡ function_of file.now strings modules files at }
 {
     let name = le::u64_at(file, at, 0);
@@ -59,84 +68,55 @@ fn function_of(file: &[u8], strings: [u64; 2], modules: Array, files: Array, at:
     let offset = le::u64_at(file, at, 16);
     let file_link = le::u64_at(file, at, 24);
     let line = le::u32_at(file, at, 32) as u64;
-    if links_kept(modules, files, name, module_link, file_link) {
-        match name_text(file, strings, at) {
-            Text::At { place, length } => Function::Found {
-                name: place,
-                length,
-                module: module_link,
-                offset,
-                file: file_link,
-                line,
-            },
-            Text::Refused(r) => Function::Refused(r),
-        }
-    } else {
-        Function::Refused(Refusal::Link)
+    if !links_kept(modules, files, name, module_link, file_link) {
+        return Err(Refusal::Link);
     }
+    Ok(Function {
+        name: name_text(file, strings, at)?,
+        load_module: module_link,
+        offset,
+        file: file_link,
+        line,
+    })
 }
 
-fn function_in(file: &[u8], sections: &[[u64; 2]; 8], i: u64) -> Function
+fn function_in(file: &[u8], sections: &[[u64; 2]; 8], i: u64) -> Result<Function, Refusal>
     requires { Sections meta file.now sections.now }
     ensures { result ≡ function_in file.now sections.now i }
 {
     let modules = array::of_specs(file, sections[MODULES][0]);
     let files = array::of_specs(file, sections[FILES][0]);
     let functions = array::of_specs(file, sections[FUNCTIONS][0]);
-    match array::nth(functions, i) {
-        Element::At(at) => function_of(file, sections[STRINGS], modules, files, at),
-        Element::Refused(r) => Function::Refused(r),
-    }
+    let at = array::nth(functions, i)?;
+    function_of(file, sections[STRINGS], modules, files, at)
 }
 
-pub fn function_at(file: &[u8], i: u64) -> Function
+pub fn function_at(file: &[u8], i: u64) -> Result<Function, Refusal>
     ensures { result ≡ function_at file.now i }
 {
-    let sections = open::meta_sections(file);
-    let check = open::check_meta(file, &sections);
-    match check {
-        Check::Passed => function_in(file, &sections, i),
-        Check::Refused(r) => Function::Refused(r),
-    }
+    let sections = open::open_meta(file)?;
+    function_in(file, &sections, i)
 }
 
-// The name of an answer, from one of two slices: 0 in `which` for a part of the file, 100 for the placeholder, whole, where there is
-// no name; else the refusal's number, and no bytes.
-fn name_bytes<'a>(
+// The name of an answer, from one of two slices: the placeholder, whole, where there is none.
+fn name_of<'a>(
     file: &'a [u8],
     placeholder: &'a [u8],
-    answer: Function,
-    which: &mut u64,
-) -> &'a [u8]
-    ensures result_value { result.now ≡ name_bytes file.now placeholder.now answer }
-    ensures which_after { which.new ≡ name_which answer }
+    answer: Result<Function, Refusal>,
+) -> Result<Name<'a>, Refusal>
+    ensures bytes { IfOk result (λ name. bytes_of name ≡ name_bytes file.now placeholder.now answer) }
+    ensures which { which_of result ≡ name_which answer }
 {
-    match answer {
-        Function::Found {
-            name,
-            length,
-            module: _,
-            offset: _,
-            file: _,
-            line: _,
-        } => {
-            if name == 0 {
-                *which = 100;
-                return placeholder;
-            }
-            *which = 0;
-            text::part(file, name, length)
-        }
-        Function::Refused(r) => {
-            *which = refusal::number(r);
-            &file[..0]
-        }
+    let name = answer?.name;
+    if name.place == 0 {
+        return Ok(Name::Placeholder(placeholder));
     }
+    Ok(Name::Stored(text::part(file, name.place, name.length)))
 }
 
-pub fn function_name<'a>(file: &'a [u8], placeholder: &'a [u8], i: u64, which: &mut u64) -> &'a [u8]
-    ensures result_value { result.now ≡ name_bytes file.now placeholder.now (function_at file.now i) }
-    ensures which_after { which.new ≡ name_which (function_at file.now i) }
+pub fn function_name<'a>(file: &'a [u8], placeholder: &'a [u8], i: u64) -> Result<Name<'a>, Refusal>
+    ensures bytes { IfOk result (λ name. bytes_of name ≡ name_bytes file.now placeholder.now (function_at file.now i)) }
+    ensures which { which_of result ≡ name_which (function_at file.now i) }
 {
-    name_bytes(file, placeholder, function_at(file, i), which)
+    name_of(file, placeholder, function_at(file, i))
 }

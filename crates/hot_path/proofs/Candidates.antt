@@ -1,5 +1,7 @@
 -- The hottest child on a trail by facts. Candidates stand in the order of their contexts: the first greatest of them is that of the first
 -- greatest child. No second context is the hottest child too: of two the earlier one would be both less and not less.
+use Rattle.std.specs.Prelude.{Err, Option, Ok, Some}
+use Rattle.total.specs.declared.Totals.{Totals}
 use Prim.Native.Nat.{ℕ, suc, ◌<◌}
 use mathlib.Core.Bool.{Bool, true, false, true≢false}
 use mathlib.Core.List.{List, [], ◌∷◌, ◌++◌, append_assoc}
@@ -11,20 +13,16 @@ use lib.Dec.{eqb}
 use lib.ListN.{length, get_or, take, drop}
 use lib.Seq.{split_at, length-take-le, get_or-take}
 use Rattle.refusal.specs.declared.Refusal.TheVariants as No
-use Rattle.refusal.specs.Check.{either}
+use Rattle.refusal.specs.Check.{either, Answer, Found, Absent}
 use Rattle.seq.specs.Lists.{In}
 use Rattle.seq.proofs.Lists.{same_or_before, in_none, in_nth}
 use Rattle.float.specs.Float.{finite, less}
-use Rattle.total.specs.declared.Totals.{Totals}
 use Rattle.total.specs.Totals.{totals_of}
 use Rattle.total.specs.Facts.{First, more}
 use Rattle.total.proofs.Facts.{only_16, absent_iff, refused_16, totalled}
-use Rattle.block.specs.declared.Lookup.{Lookup}
-use Rattle.block.specs.declared.Lookup.TheVariants.{Found, Absent, Refused}
 use Rattle.context.specs.Entry.{Entry}
 use Rattle.traversal.specs.Children.{children_of}
 use Rattle.traversal.specs.Walk.{place_of}
-use Rattle.hot_path.specs.declared.Hottest.{Hottest}
 use Rattle.hot_path.specs.HotPath.{Candidate, candidate, candidates, places_of, bits_of, hottest_in, hottest_of, hottest_below}
 use Rattle.hot_path.specs.Facts.{ValuedChild, HottestChild, NoneValued, SomeNotFinite}
 
@@ -33,7 +31,7 @@ use Rattle.hot_path.specs.Facts.{ValuedChild, HottestChild, NoneValued, SomeNotF
 abbrev its_candidate : Entry → (bits : ℕ) → Candidate
 its_candidate e bits = record { place = e.place; bits = bits }
 
-module _ (value : ℕ → Lookup) (parent : ℕ) where
+module _ (value : ℕ → Answer (Option ℕ)) (parent : ℕ) where
   abbrev candidates_on : List Entry → List Candidate
   candidates_on l = candidates place_of (λ e. value e.ctx_id) (children_of parent l)
 
@@ -62,11 +60,11 @@ module _ (value : ℕ → Lookup) (parent : ℕ) where
   unfolding own either candidate
   own_told e = go (eqb e.parent parent) refl (value e.ctx_id) refl
     where
-      go : (b : Bool) → eqb e.parent parent ≡ b → (v : Lookup) → value e.ctx_id ≡ v
+      go : (b : Bool) → eqb e.parent parent ≡ b → (v : Answer (Option ℕ)) → value e.ctx_id ≡ v
           → (either b (candidate e.place v) [] ≡ []) ⊎ ((bits : ℕ) × Valued e bits)
       go true p (Found bits) h = inr (bits, (eqb-true e.parent parent p, h))
       go true p Absent h = inl refl
-      go true p (Refused r) h = inl refl
+      go true p (Err r) h = inl refl
       go false p v h = inl refl
 
   candidates_append : (l m : List Entry) → candidates_on (l ++ m) ≡ candidates_on l ++ candidates_on m
@@ -135,7 +133,7 @@ module _ (value : ℕ → Lookup) (parent : ℕ) where
 
 -- ---- the hottest child
 
-module _ (value : ℕ → Lookup) (l : List Entry) (parent : ℕ) where
+module _ (value : ℕ → Answer (Option ℕ)) (l : List Entry) (parent : ℕ) where
   abbrev all : List Candidate
   all = candidates_on value parent l
 
@@ -155,14 +153,14 @@ module _ (value : ℕ → Lookup) (l : List Entry) (parent : ℕ) where
   valued_child s = record { on_trail = (s.before, s.after, s.divides); child = s.valued.0; has = s.valued.1 }
 
   -- what an answer says of the children
-  abbrev pub Tells : Hottest → Type 0
-  Tells (Hottest.At p) = (e : Entry) × HottestChild value l parent e × (e.place ≡ p)
-  Tells Hottest.Nowhere = NoneValued value l parent
-  Tells (Hottest.Refused r) = (r ≡ No.NotFinite) × SomeNotFinite value l parent
+  abbrev pub Tells : Answer (Option ℕ) → Type 0
+  Tells (Found p) = (e : Entry) × HottestChild value l parent e × (e.place ≡ p)
+  Tells Absent = NoneValued value l parent
+  Tells (Err r) = (r ≡ No.NotFinite) × SomeNotFinite value l parent
 
   -- the first greatest candidate is that of the hottest child
   greatest_told : (id v j : ℕ) → ((i : ℕ) → i < length all → finite (bits_of all i) ≡ true)
-      → First more (places_of all) (bits_of all) (length all) id v j → Tells (Hottest.At id)
+      → First more (places_of all) (bits_of all) (length all) id v j → Tells (Found id)
   greatest_told id v j finites f =
       let s = nth j f.within in (
         s.here,
@@ -192,14 +190,14 @@ module _ (value : ℕ → Lookup) (l : List Entry) (parent : ℕ) where
   unfolding hottest_of hottest_in
   tells = go (totals_of (places_of all) (bits_of all) (length all)) refl
     where
-      go : (t : Totals) → totals_of (places_of all) (bits_of all) (length all) ≡ t → Tells (hottest_in t)
-      go (Totals.Of count least_of least greatest_of greatest sum) e =
-          let t = (totalled (places_of all) (bits_of all) (length all) count least_of least greatest_of greatest sum e).1 in
-          greatest_told greatest_of greatest t.first_greatest.0 t.all-finite t.first_greatest.1
-      go Totals.Absent e = λ d bits v. omega (arith, (valued_nth d bits v).1, (absent_iff (places_of all) (bits_of all) (length all)).0 e)
-      go (Totals.Refused r) e =
+      go : (t : Answer (Option Totals)) → totals_of (places_of all) (bits_of all) (length all) ≡ t → Tells (hottest_in t)
+      go (Ok (Some it)) e =
+          let t = (totalled (places_of all) (bits_of all) (length all) it.count it.least_of it.least it.greatest_of it.greatest it.sum e).1 in
+          greatest_told it.greatest_of it.greatest t.first_greatest.0 t.all-finite t.first_greatest.1
+      go Absent e = λ d bits v. omega (arith, (valued_nth d bits v).1, (absent_iff (places_of all) (bits_of all) (length all)).0 e)
+      go (Err r) e =
           let is16 = only_16 (places_of all) (bits_of all) (length all) r e in
-          let (k, (m, broken)) = ((refused_16 (places_of all) (bits_of all) (length all)).0 (e ∙ ap Totals.Refused is16)).1 in
+          let (k, (m, broken)) = ((refused_16 (places_of all) (bits_of all) (length all)).0 (e ∙ ap Err is16)).1 in
           let s = nth k m in
           (is16, (s.here, bits_of all k, valued_child s, broken))
 

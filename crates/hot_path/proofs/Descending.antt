@@ -1,4 +1,6 @@
 -- Down from the roots: the places in the first words, and then the way from the context that was found last on.
+use Rattle.std.specs.Prelude.{Err, Ok, Option}
+use Rattle.refusal.specs.Check.{Answer, Absent, Found}
 use Prim.Native.Nat.{ℕ, zero, suc, ◌+◌, ◌-◌, ◌≤◌, ◌<◌}
 use mathlib.Core.List.{List, [], ◌∷◌, ◌++◌, map}
 use mathlib.Core.Path.{◌≡◌, refl, sym, ap, ◌∙◌, subst}
@@ -8,7 +10,6 @@ use native.Mathlib.Omega.{arith}
 use lib.ListN.{length, take, set}
 use Rattle.refusal.specs.declared.Refusal.{Refusal}
 use Rattle.seq.specs.Lists.{All, In}
-use Rattle.block.specs.declared.Lookup.{Lookup}
 use Rattle.open.specs.Opening.{field}
 use Rattle.context.specs.Context.{ctx_id}
 use Rattle.context.specs.Entry.{Entry}
@@ -16,22 +17,20 @@ use Rattle.traversal.specs.Traversal.{depth_limit}
 use Rattle.traversal.specs.Walk.{place_of}
 use Rattle.traversal.specs.Children.{children_of, StandAt, roots_header, Children}
 use Rattle.traversal.proofs.ChildArrays.{every_child}
-use Rattle.hot_path.specs.declared.Hottest.{Hottest}
-use Rattle.hot_path.specs.declared.HotPath.TheVariants as HotPath
 use Rattle.hot_path.specs.HotPath.{candidates, hottest_of, hottest_below, Descent, along, stopped, with_place, follow, descent_from}
 use Rattle.hot_path.specs.State.{candidates_at, descent_in}
 use Rattle.hot_path.proofs.Candidates.{Tells, tells}
 
 -- ---- the candidates in an array are those among the contexts with its parent
 
-same_candidates : (meta : List ℕ) (value : ℕ → Lookup) (es : List Entry) → All (λ e. e.ctx_id ≡ field meta e.place ctx_id) es
+same_candidates : (meta : List ℕ) (value : ℕ → Answer (Option ℕ)) (es : List Entry) → All (λ e. e.ctx_id ≡ field meta e.place ctx_id) es
     → candidates (λ p. p) (λ p. value (field meta p ctx_id)) (map place_of es) ≡ candidates place_of (λ e. value e.ctx_id) es
 unfolding candidates
 same_candidates meta value [] h = refl
 same_candidates meta value (e ∷ es) h = rw (h.0, same_candidates meta value es h.1)
 
 -- the hottest is on the trail
-chosen_on_trail : (value : ℕ → Lookup) (l : List Entry) (parent p : ℕ) → hottest_below value l parent ≡ Hottest.At p
+chosen_on_trail : (value : ℕ → Answer (Option ℕ)) (l : List Entry) (parent p : ℕ) → hottest_below value l parent ≡ Found p
     → (q : Entry) × In q l × (q.place ≡ p)
 chosen_on_trail value l parent p e = let t = subst (Tells value l parent) e (tells value l parent) in (t.0, t.1.valued.on_trail, t.2)
 
@@ -63,9 +62,9 @@ take_more (w ∷ words) (suc n) p h = ap (λ (l : List ℕ). w ∷ l) (take_more
 
 -- ---- level by level
 
-module _ (meta : List ℕ) (value : ℕ → Lookup) (l : List Entry) (k : Children meta l) where
+module _ (meta : List ℕ) (value : ℕ → Answer (Option ℕ)) (l : List Entry) (k : Children meta l) where
   -- the hottest of an array
-  abbrev pub hottest_at : (at : ℕ) → Hottest
+  abbrev pub hottest_at : (at : ℕ) → Answer (Option ℕ)
   hottest_at at = hottest_of (candidates_at meta value at)
 
   hottest-below : (parent at : ℕ) → StandAt meta l parent at → hottest_at at ≡ hottest_below value l parent
@@ -84,7 +83,7 @@ module _ (meta : List ℕ) (value : ℕ → Lookup) (l : List Entry) (k : Childr
 
   module _ {at : ℕ} {words : List ℕ} {n : ℕ} (d : Descending at words n) where
     -- what an answer for the array says of the way
-    level_down : n < depth_limit → (h : Hottest) → h ≡ hottest_at at
+    level_down : n < depth_limit → (h : Answer (Option ℕ)) → h ≡ hottest_at at
         → descent_from value l depth_limit 0 ≡ with_places (take n words) (follow h (descent_from value l (depth_limit - (n + 1))))
     unfolding descent_from
     level_down b h e =
@@ -92,26 +91,26 @@ module _ (meta : List ℕ) (value : ℕ → Lookup) (l : List Entry) (k : Childr
         d.so_far ∙ ap (λ (j : ℕ). with_places (take n words) (descent_from value l j d.parent)) m
         ∙ rw (e, hottest-below d.parent at d.stands)
 
-    pub descending_more : n < depth_limit → n < length words → (p : ℕ) → Hottest.At p ≡ hottest_at at → Descending p (set words n p) (n + 1)
+    pub descending_more : n < depth_limit → n < length words → (p : ℕ) → Found p ≡ hottest_at at → Descending p (set words n p) (n + 1)
     unfolding follow
     descending_more b s p e =
         let q = chosen_on_trail value l d.parent p (sym (e ∙ hottest-below d.parent at d.stands)) in
         record {
           parent = p;
           stands = subst (λ (x : ℕ). StandAt meta l x x) q.2 (k.of_each q.0 q.1);
-          so_far = level_down b (Hottest.At p) e ∙ sym (places_last (take n words) p _) ∙ rw (add-one n, take_more words n p s);
+          so_far = level_down b (Found p) e ∙ sym (places_last (take n words) p _) ∙ rw (add-one n, take_more words n p s);
         }
 
-    pub descending_end : n < depth_limit → Hottest.Nowhere ≡ hottest_at at → descent_from value l depth_limit 0 ≡ descent_in (HotPath.Of n) words
+    pub descending_end : n < depth_limit → Absent ≡ hottest_at at → descent_from value l depth_limit 0 ≡ descent_in (Ok n) words
     unfolding follow descent_in
-    descending_end b e = level_down b Hottest.Nowhere e ∙ places_end (take n words)
+    descending_end b e = level_down b Absent e ∙ places_end (take n words)
 
-    pub descending_refused : n < depth_limit → (r : Refusal) → Hottest.Refused r ≡ hottest_at at
-        → descent_from value l depth_limit 0 ≡ descent_in (HotPath.Refused r) words
+    pub descending_refused : n < depth_limit → (r : Refusal) → Err r ≡ hottest_at at
+        → descent_from value l depth_limit 0 ≡ descent_in (Err r) words
     unfolding follow descent_in
-    descending_refused b r e = level_down b (Hottest.Refused r) e ∙ places_stopped (take n words) r
+    descending_refused b r e = level_down b (Err r) e ∙ places_stopped (take n words) r
 
-    pub descending_bottom : depth_limit ≤ n → descent_from value l depth_limit 0 ≡ descent_in (HotPath.Of n) words
+    pub descending_bottom : depth_limit ≤ n → descent_from value l depth_limit 0 ≡ descent_in (Ok n) words
     unfolding descent_from descent_in
     descending_bottom b =
         let m : depth_limit - n ≡ 0 = omega arith in

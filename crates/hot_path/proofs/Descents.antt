@@ -1,5 +1,7 @@
 -- The way down by facts: each place is that of the hottest child of the one before, of which there is one at most, and below the last one
 -- the end is told. The levels suffice: each step leads one deeper, and no context on a trail that ends whole is deeper than the limit.
+use Rattle.std.specs.Prelude.{Err, Option}
+use Rattle.refusal.specs.Check.{Answer, Absent, Found}
 use Prim.Native.Nat.{ℕ, zero, suc, ◌+◌, ◌≤◌}
 use mathlib.Core.List.{List, [], ◌∷◌}
 use mathlib.Core.Logic.{◌↔◌}
@@ -8,18 +10,15 @@ use native.Mathlib.Omega.{arith}
 use lib.ListN.{length}
 use Rattle.refusal.specs.declared.Refusal.TheVariants as No
 use Rattle.seq.specs.Lists.{In}
-use Rattle.block.specs.declared.Lookup.{Lookup}
 use Rattle.context.specs.Entry.{Entry}
 use Rattle.traversal.specs.Children.{Children}
 use Rattle.traversal.specs.Traversal.{depth_limit}
 use Rattle.traversal.specs.Walk.{place_of}
-use Rattle.hot_path.specs.declared.Hottest.{Hottest}
-use Rattle.hot_path.specs.declared.Hottest.TheVariants.{At, Nowhere, Refused}
 use Rattle.hot_path.specs.HotPath.{Descent, along, stopped, with_place, follow, hottest_below, descent_from}
 use Rattle.hot_path.specs.Facts.{HottestChild, HotDown, NoneValued, SomeNotFinite}
 use Rattle.hot_path.proofs.Candidates.{Tells, tells, one_hottest, hottest_valued, hottest_finite}
 
-module _ (value : ℕ → Lookup) (l : List Entry) where
+module _ (value : ℕ → Answer (Option ℕ)) (l : List Entry) where
   -- what a way down from a parent says
   abbrev pub IsDescent : (parent : ℕ) → Descent → Type 0
   IsDescent parent (along ps) = HotDown value l (NoneValued value l) parent ps
@@ -62,7 +61,7 @@ module _ (value : ℕ → Lookup) (l : List Entry) where
   -- ---- and it is found
 
   -- from one place higher
-  one_more : (parent p : ℕ) → Tells value l parent (At p) → (w : Descent) → IsDescent p w → IsDescent parent (with_place p w)
+  one_more : (parent p : ℕ) → Tells value l parent (Found p) → (w : Descent) → IsDescent p w → IsDescent parent (with_place p w)
   unfolding with_place
   one_more parent p t (along ps) h = (t, h)
   one_more parent p t (stopped r) h = (h.0, (p ∷ h.1.0, (t, h.1.1)))
@@ -80,10 +79,10 @@ module _ (value : ℕ → Lookup) (l : List Entry) where
       below p (along qs) t k shorter = let same : (p ∷ qs) ≡ ps = cc in omega (arith, ap length same, shorter p qs t)
       below p (stopped r) t k shorter = absurd (let z : ◌≡◌ {A = ℕ} 0 1 = cc in omega arith)
 
-      go : (h : Hottest) → follow h (descent_from value l levels) ≡ along ps → Shorter → length ps ≤ suc levels
-      go (At p) k shorter = below p (descent_from value l levels p) refl k shorter
-      go Nowhere k shorter = let none : [] ≡ ps = cc in omega (arith, ap length none)
-      go (Refused r) k shorter = absurd (let z : ◌≡◌ {A = ℕ} 0 1 = cc in omega arith)
+      go : (h : Answer (Option ℕ)) → follow h (descent_from value l levels) ≡ along ps → Shorter → length ps ≤ suc levels
+      go (Found p) k shorter = below p (descent_from value l levels p) refl k shorter
+      go Absent k shorter = let none : [] ≡ ps = cc in omega (arith, ap length none)
+      go (Err r) k shorter = absurd (let z : ◌≡◌ {A = ℕ} 0 1 = cc in omega arith)
 
   module _ {file : List ℕ} (c : Children file l) where
     -- all contexts with a parent are at one depth
@@ -97,14 +96,14 @@ module _ (value : ℕ → Lookup) (l : List Entry) where
     descent_found (suc levels) d parent deep enough =
         go (hottest_below value l parent) (tells value l parent) (λ p below. descent_found levels (suc d) p below (omega arith))
       where
-        go : (h : Hottest) → Tells value l parent h → ((p : ℕ) → Deep (suc d) p → IsDescent p (descent_from value l levels p))
+        go : (h : Answer (Option ℕ)) → Tells value l parent h → ((p : ℕ) → Deep (suc d) p → IsDescent p (descent_from value l levels p))
             → IsDescent parent (follow h (descent_from value l levels))
-        go (At p) t rest =
+        go (Found p) t rest =
             let i = t.1.valued.on_trail in
             one_more parent p t (descent_from value l levels p) (rest p
             (λ x j q. c.child_depth t.0 x i j (q ∙ sym t.2) ∙ ap suc (deep t.0 i t.1.valued.child)))
-        go Nowhere t rest = t
-        go (Refused r) t rest = (t.0, ([], t.1))
+        go Absent t rest = t
+        go (Err r) t rest = (t.0, ([], t.1))
 
     -- with as many levels as the limit has, from the roots
     pub descent_iff : (w : Descent) → (descent_from value l depth_limit 0 ≡ w) ↔ IsDescent 0 w

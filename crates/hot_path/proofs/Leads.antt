@@ -1,6 +1,7 @@
 -- The lead among the candidates so far is the greatest of their tally, and so the hottest of them: one candidate more changes both alike.
+use Rattle.std.specs.Prelude.{Err, Some, None, Option, IfSome}
 use Prim.Native.Nat.{ℕ, suc, ◌<◌}
-use mathlib.Core.Bool.{Bool, true, false, ◌||◌, not, true≢false}
+use mathlib.Core.Bool.{Bool, true, false}
 use mathlib.Core.List.{List, [], ◌∷◌, ◌++◌}
 use mathlib.Core.Path.{◌≡◌, refl, sym, ap, ◌∙◌}
 use native.Mathlib.Omega.{arith}
@@ -8,18 +9,16 @@ use lib.Ieee.{binary64, of_bits, lt}
 use lib.ListN.{length, get_or, length-append}
 use lib.Seq.{get_or-take, take_at, get_or_at}
 use Rattle.refusal.specs.declared.Refusal.TheVariants as No
-use Rattle.refusal.specs.Check.{either}
+use Rattle.refusal.specs.Check.{either, Absent, Found}
 use Rattle.seq.specs.Lists.{All}
 use Rattle.seq.proofs.Lists.{all_append, all_in, nth_in}
 use Rattle.seq.proofs.Every.{every_of}
 use Rattle.float.specs.Float.{finite, less}
-use Rattle.float.proofs.Finite.{finite_below}
 use Rattle.total.specs.declared.Tally.{Tally}
 use Rattle.total.specs.Totals.{start_of, step_of, tally_to, all_finite, finish, totals_of}
 use Rattle.total.proofs.Tallies.{tally_same}
 use Rattle.total.proofs.Facts.{refused_16}
 use Rattle.hot_path.specs.declared.Lead.{Lead}
-use Rattle.hot_path.specs.declared.Hottest.TheVariants as Hottest
 use Rattle.hot_path.specs.HotPath.{Candidate, places_of, bits_of, hottest_in, hottest_of}
 use Rattle.hot_path.specs.State.{lead_with}
 
@@ -28,13 +27,13 @@ use Rattle.hot_path.specs.State.{lead_with}
 abbrev tally_of : (c : Candidate) (cs : List Candidate) → Tally
 tally_of c cs = tally_to (places_of (c ∷ cs)) (bits_of (c ∷ cs)) (length cs)
 
-abbrev IsLead : List Candidate → Lead → Type 0
-IsLead [] t = t.some ≡ false
-IsLead (c ∷ cs) t = (t.some ≡ true) × (t.place ≡ (tally_of c cs).greatest_of) × (t.bits ≡ (tally_of c cs).greatest)
+abbrev IsLead : List Candidate → Option Lead → Type 0
+IsLead [] t = t ≡ None
+IsLead (c ∷ cs) t = t ≡ Some (record { place = (tally_of c cs).greatest_of; bits = (tally_of c cs).greatest })
 
-pub record Leads (cs : List Candidate) (t : Lead) : Type 0 where
+pub record Leads (cs : List Candidate) (t : Option Lead) : Type 0 where
   pub all-finite : All (λ c. finite c.bits ≡ true) cs
-  pub lead_finite : finite t.bits ≡ true
+  pub lead_finite : IfSome t (λ t. finite t.bits ≡ true)
   pub is : IsLead cs t
 
 -- ---- one more
@@ -57,52 +56,47 @@ tally_more c cs d =
     ∙ ap (λ (u : Tally). step_of u (places_of more (suc (length cs))) (bits_of more (suc (length cs)))) same
     ∙ ap (λ (x : Candidate). step_of (tally_of c cs) x.place x.bits) last
 
-lead_step : (t : Lead) (u : Tally) (place bits : ℕ) → t.some ≡ true → t.place ≡ u.greatest_of → t.bits ≡ u.greatest
-    → ((lead_with t place bits).some ≡ true) × ((lead_with t place bits).place ≡ (step_of u place bits).greatest_of)
-    × ((lead_with t place bits).bits ≡ (step_of u place bits).greatest)
+lead_step : (u : Tally) (place bits : ℕ) → lead_with (Some (record { place = u.greatest_of; bits = u.greatest })) place bits
+    ≡ Some (record { place = (step_of u place bits).greatest_of; bits = (step_of u place bits).greatest })
 unfolding lead_with step_of either
-lead_step t u place bits some p b =
-    let e : (not t.some || less t.bits bits) ≡ less u.greatest bits = rw (some, b) in
-    rw e (go (less u.greatest bits))
+lead_step u place bits = go (less u.greatest bits)
   where
-    here : Lead
-    here = record { some = true; place = place; bits = bits }
+    go : (above : Bool) → either {A = Option Lead} above (Some (record { place = place; bits = bits })) (Some (record { place = u.greatest_of; bits = u.greatest }))
+        ≡ Some (record { place = either above place u.greatest_of; bits = either above bits u.greatest })
+    go true = refl
+    go false = refl
 
-    go : (above : Bool) → ((either above here t).some ≡ true) × ((either above here t).place ≡ either above place u.greatest_of)
-        × ((either above here t).bits ≡ either above bits u.greatest)
-    go true = (refl, refl, refl)
-    go false = (some, p, b)
+lead_more : (cs : List Candidate) (t : Option Lead) (d : Candidate) → IsLead cs t → IsLead (cs ++ (d ∷ [])) (lead_with t d.place d.bits)
+unfolding lead_with tally_to start_of
+lead_more [] t d h = rw h
+lead_more (c ∷ cs) t d h = rw (tally_more c cs d, h) (lead_step (tally_of c cs) d.place d.bits)
 
-lead_more : (cs : List Candidate) (t : Lead) (d : Candidate) → IsLead cs t → IsLead (cs ++ (d ∷ [])) (lead_with t d.place d.bits)
-unfolding lead_with either tally_to start_of
-lead_more [] t d h = rw h (refl, refl, refl)
-lead_more (c ∷ cs) t d h = rw (tally_more c cs d) (lead_step t (tally_of c cs) d.place d.bits h.0 h.1 h.2)
-
-with_finite : (t : Lead) (place bits : ℕ) → finite t.bits ≡ true → finite bits ≡ true → finite (lead_with t place bits).bits ≡ true
+with_finite : (t : Option Lead) (place bits : ℕ) → IfSome t (λ t. finite t.bits ≡ true) → finite bits ≡ true
+    → IfSome (lead_with t place bits) (λ t. finite t.bits ≡ true)
 unfolding lead_with either
-with_finite t place bits h k = go (not t.some || less t.bits bits)
+with_finite None place bits h k = k
+with_finite (Some t) place bits h k = go (less t.bits bits)
   where
-    go : (leads : Bool) → finite (either leads (record { some = true; place = place; bits = bits }) t).bits ≡ true
+    go : (leads : Bool) → IfSome (either {A = Option Lead} leads (Some (record { place = place; bits = bits })) (Some t)) (λ t. finite t.bits ≡ true)
     go true = k
     go false = h
 
 -- by the test of two floats
 module _ (t : Lead) (place bits : ℕ) where
-  pub lead_taken : (not t.some || lt (of_bits binary64 t.bits) (of_bits binary64 bits)) ≡ true
-      → record { some = true; place = place; bits = bits } ≡ lead_with t place bits
+  pub lead_taken : lt (of_bits binary64 t.bits) (of_bits binary64 bits) ≡ true → Some (record { place = place; bits = bits }) ≡ lead_with (Some t) place bits
   unfolding lead_with either less
   lead_taken h = rw h
 
-  pub lead_left : (not t.some || lt (of_bits binary64 t.bits) (of_bits binary64 bits)) ≡ false → t ≡ lead_with t place bits
+  pub lead_left : lt (of_bits binary64 t.bits) (of_bits binary64 bits) ≡ false → Some t ≡ lead_with (Some t) place bits
   unfolding lead_with either less
   lead_left h = rw h
 
 -- ---- from none to all
 
-pub leads_none : Leads [] (record { some = false; place = 0; bits = 0 })
-leads_none = record { all-finite = tt; lead_finite = finite_below 0 (omega arith); is = refl }
+pub leads_none : Leads [] None
+leads_none = record { all-finite = tt; lead_finite = tt; is = refl }
 
-pub leads_more : {cs : List Candidate} {t : Lead} → Leads cs t → (d : Candidate) → finite d.bits ≡ true
+pub leads_more : {cs : List Candidate} {t : Option Lead} → Leads cs t → (d : Candidate) → finite d.bits ≡ true
     → Leads (cs ++ (d ∷ [])) (lead_with t d.place d.bits)
 leads_more {cs} {t} h d f = record {
   all-finite = all_append _ cs (d ∷ []) h.all-finite (f, tt);
@@ -110,23 +104,25 @@ leads_more {cs} {t} h d f = record {
   is = lead_more cs t d h.is;
 }
 
-pub leads_nowhere : (cs : List Candidate) (t : Lead) → Leads cs t → t.some ≡ false → hottest_of cs ≡ Hottest.Nowhere
+pub leads_nowhere : (cs : List Candidate) → Leads cs None → hottest_of cs ≡ Absent
 unfolding hottest_of hottest_in totals_of
-leads_nowhere [] t h s = refl
-leads_nowhere (c ∷ cs) t h s = absurd (true≢false (sym h.is.0 ∙ s))
+leads_nowhere [] h = refl
+leads_nowhere (c ∷ cs) h = absurd (let e = h.is in let z : ◌≡◌ {A = ℕ} 0 1 = cc in omega arith)
 
-pub leads_at : (cs : List Candidate) (t : Lead) → Leads cs t → t.some ≡ true → hottest_of cs ≡ Hottest.At t.place
+pub leads_at : (cs : List Candidate) (t : Lead) → Leads cs (Some t) → hottest_of cs ≡ Found t.place
 unfolding hottest_of hottest_in totals_of finish either
-leads_at [] t h s = absurd (true≢false (sym s ∙ h.is))
-leads_at (c ∷ cs) t h s =
+leads_at [] t h = absurd (let e = h.is in let z : ◌≡◌ {A = ℕ} 0 1 = cc in omega arith)
+leads_at (c ∷ cs) t h =
     let all : List Candidate = c ∷ cs in
     let f : all_finite (bits_of all) (length all) ≡ true =
     every_of _ (length all) (λ k l. all_in (λ d. finite d.bits ≡ true) all h.all-finite (nth_in _ all k l)) in
-    rw (f, h.is.1)
+    let e = h.is in
+    let same : t ≡ record { place = (tally_of c cs).greatest_of; bits = (tally_of c cs).greatest } = cc in
+    rw (f, same)
 
 -- a candidate that is not finite
 pub not_finite : (cs : List Candidate) (d : Candidate) (rest : List Candidate) → finite d.bits ≡ false
-    → hottest_of (cs ++ (d ∷ rest)) ≡ Hottest.Refused No.NotFinite
+    → hottest_of (cs ++ (d ∷ rest)) ≡ Err No.NotFinite
 unfolding hottest_of hottest_in
 not_finite cs d rest f =
     let all : List Candidate = cs ++ (d ∷ rest) in

@@ -1,5 +1,7 @@
 -- The hot path in plain facts, of any call: with a walk that ends whole and a block that is there, the way down is the one that the facts
 -- tell, and the answer and the path's words are made of it.
+use Rattle.std.specs.Prelude.{Err, Ok}
+use Rattle.refusal.specs.Check.{Answer, on_answer}
 use Prim.Native.Nat.{ℕ, ◌≤◌, ◌<◌}
 use mathlib.Core.List.{List, [], ◌∷◌}
 use mathlib.Core.Logic.{◌↔◌, ◌⊎◌, inl, inr, ⊎_elim}
@@ -12,15 +14,13 @@ use Rattle.refusal.specs.Number.{number_of}
 use Rattle.buffer.specs.Over.{over}
 use Rattle.buffer.proofs.Laws.{drop_over}
 use Rattle.block.specs.declared.Block.{Block}
-use Rattle.lookup.specs.declared.Checked.{Checked}
-use Rattle.lookup.specs.Lookup.{profile_block, on_checked}
+use Rattle.lookup.specs.Lookup.{profile_block}
 use Rattle.lookup.proofs.Demand2.{profile_there_iff}
 use Rattle.context.specs.Entry.{Entry}
 use Rattle.traversal.specs.declared.Walked.TheVariants as Walked
 use Rattle.traversal.specs.Traversal.{Asked, Outcome, on, cut, refused, depth_limit}
 use Rattle.traversal.specs.Walk.{walk_of, walked_of}
 use Rattle.traversal.proofs.ChildArrays.{whole_arrays}
-use Rattle.hot_path.specs.declared.HotPath.TheVariants.{Of, Refused}
 use Rattle.hot_path.specs.HotPath.{Descent, along, stopped, descent_from, on_whole, walk_asked, value_of, hot_descent, hot_answer, path_after}
 use Rattle.hot_path.specs.Facts.{NoneValued, MeetsNotFinite, HotCall, walk_answer, Ready, room, OfTheCall}
 use Rattle.hot_path.specs.Facts.{OfWalk, OfBlock, OfPath, HotPathSays}
@@ -34,7 +34,7 @@ module _ (c : HotCall) where
   abbrev asked : Asked
   asked = walk_asked c.question c.was
 
-  abbrev block : Checked
+  abbrev block : Answer Block
   block = profile_block c.question.db c.question.profile
 
   abbrev descent : Descent
@@ -47,35 +47,35 @@ module _ (c : HotCall) where
   path_by : (w : Descent) → descent ≡ w → c.now.path ≡ path_after c.was.path w
   path_by w e = c.promised.placed ∙ ap (path_after c.was.path) e
 
-  stopped_by : (r : Refusal) → descent ≡ stopped r → c.answer ≡ Refused r
+  stopped_by : (r : Refusal) → descent ≡ stopped r → c.answer ≡ Err r
   unfolding hot_answer
   stopped_by r e = answer_by (stopped r) e
 
   -- and the other way round
-  descent_answered : (n : ℕ) → c.answer ≡ Of n → (ps : List ℕ) × (descent ≡ along ps) × (n ≡ length ps) × (n ≤ room c)
+  descent_answered : (n : ℕ) → c.answer ≡ Ok n → (ps : List ℕ) × (descent ≡ along ps) × (n ≡ length ps) × (n ≤ room c)
   descent_answered n e = of_told (room c) n descent (sym c.promised.answers ∙ e)
 
   abbrev NoRoom : Refusal → Type 0
   NoRoom r = (r ≡ No.Room) × ((ps : List ℕ) × (descent ≡ along ps) × (room c < length ps))
 
-  descent_refused : (r : Refusal) → c.answer ≡ Refused r → (descent ≡ stopped r) ⊎ NoRoom r
+  descent_refused : (r : Refusal) → c.answer ≡ Err r → (descent ≡ stopped r) ⊎ NoRoom r
   descent_refused r e = refused_told (room c) r descent (sym c.promised.answers ∙ e)
 
   -- ---- a walk or a block that is refused, and what a refusal leaves
 
-  walk_refused : (r : Refusal) (n : ℕ) → walk_answer c ≡ Walked.Refused r n → c.answer ≡ Refused r
+  walk_refused : (r : Refusal) (n : ℕ) → walk_answer c ≡ Walked.Refused r n → c.answer ≡ Err r
   unfolding hot_descent
   walk_refused r n e = stopped_by r (whole_refused r n (walk_of asked) _ e)
 
-  walk_cut : (n : ℕ) → walk_answer c ≡ Walked.Truncated n → c.answer ≡ Refused No.Room
+  walk_cut : (n : ℕ) → walk_answer c ≡ Walked.Truncated n → c.answer ≡ Err No.Room
   unfolding hot_descent
   walk_cut n e = stopped_by No.Room (whole_cut n (walk_of asked) _ e)
 
-  block_refused : (n : ℕ) → walk_answer c ≡ Walked.Complete n → (r : Refusal) → block ≡ Checked.Refused r → c.answer ≡ Refused r
-  unfolding hot_descent on_whole on_checked
+  block_refused : (n : ℕ) → walk_answer c ≡ Walked.Complete n → (r : Refusal) → block ≡ Err r → c.answer ≡ Err r
+  unfolding hot_descent on_whole on_answer
   block_refused n e r b = stopped_by r (rw ((whole_on n (walk_of asked) e).1, b))
 
-  untouched : (r : Refusal) → c.answer ≡ Refused r → c.now.path ≡ c.was.path
+  untouched : (r : Refusal) → c.answer ≡ Err r → c.now.path ≡ c.was.path
   unfolding path_after
   untouched r e = go (descent_refused r e)
     where
@@ -88,26 +88,26 @@ module _ (c : HotCall) where
   ready_walk : (l : List Entry) → Ready c l → walk_of asked ≡ on l
   ready_walk l r = let (m, w) = whole_on (length l) (walk_of asked) r.whole in w ∙ sym (whole_trail c.question c.was m w) ∙ r.trail
 
-  ready_by : (l : List Entry) (b : Block) → walk_of asked ≡ on l → block ≡ Checked.Valid b → Ready c l
+  ready_by : (l : List Entry) (b : Block) → walk_of asked ≡ on l → block ≡ Ok b → Ready c l
   ready_by l b t v = record {
     whole = unfold walked_of in ap walked_of t;
     trail = whole_trail c.question c.was l t;
     block = (b, (profile_there_iff c.question.db c.question.profile b).0 v);
   }
 
-  ready : (n : ℕ) (b : Block) → walk_answer c ≡ Walked.Complete n → block ≡ Checked.Valid b → (l : List Entry) × Ready c l
+  ready : (n : ℕ) (b : Block) → walk_answer c ≡ Walked.Complete n → block ≡ Ok b → (l : List Entry) × Ready c l
   ready n b e v = let (l, t) = whole_on n (walk_of asked) e in (l, ready_by l b t v)
 
   -- both are sound, or one of them stops the way down
   sound_or_stopped : (w : Descent) → descent ≡ w → ((l : List Entry) × Ready c l) ⊎ ((r : Refusal) × (w ≡ stopped r) × (OfWalk c r ⊎ OfBlock c r))
-  unfolding hot_descent on_whole on_checked walked_of
+  unfolding hot_descent on_whole on_answer walked_of
   sound_or_stopped w e = go (walk_of asked) refl block refl e
     where
-      go : (o : Outcome) → walk_of asked ≡ o → (v : Checked) → block ≡ v
-          → on_whole stopped o (λ l. on_checked stopped v (λ b. descent_from (value_of c.question) l depth_limit 0)) ≡ w
+      go : (o : Outcome) → walk_of asked ≡ o → (v : Answer Block) → block ≡ v
+          → on_whole stopped o (λ l. on_answer stopped v (λ b. descent_from (value_of c.question) l depth_limit 0)) ≡ w
           → ((l : List Entry) × Ready c l) ⊎ ((r : Refusal) × (w ≡ stopped r) × (OfWalk c r ⊎ OfBlock c r))
-      go (on l) t (Checked.Valid b) v k = inl (l, ready_by l b t v)
-      go (on l) t (Checked.Refused r) v k = inr (r, sym k, inr (length l, ap walked_of t, v))
+      go (on l) t (Ok b) v k = inl (l, ready_by l b t v)
+      go (on l) t (Err r) v k = inr (r, sym k, inr (length l, ap walked_of t, v))
       go (cut l) t v p k = inr (No.Room, sym k, inl (inr (refl, (length l, ap walked_of t))))
       go (refused r l) t v p k = inr (r, sym k, inl (inl (length l, ap walked_of t)))
 
@@ -121,19 +121,19 @@ module _ (c : HotCall) where
   -- ---- with what is known of the children on its trail
 
   descent_told : (l : List Entry) → Ready c l → (w : Descent) → (descent ≡ w) ↔ IsDescent (value_of c.question) l 0 w
-  unfolding hot_descent on_whole on_checked
+  unfolding hot_descent on_whole on_answer
   descent_told l r w =
       rw (ready_walk l r, (profile_there_iff c.question.db c.question.profile r.block.0).1 r.block.1)
       (descent_iff (value_of c.question) l (whole_arrays asked l r.trail) w)
 
-  answered : (n : ℕ) → (c.answer ≡ Of n)
+  answered : (n : ℕ) → (c.answer ≡ Ok n)
       ↔ ((l : List Entry) × (path : List ℕ) × Ready c l × OfTheCall c l path × (n ≡ length path) × (n ≤ room c))
   answered n = (
     λ e. let (ps, w, m, k) = descent_answered n e in let (l, r) = along_ready ps w in (l, ps, r, (descent_told l r (along ps)).0 w, m, k),
-    λ (l, ps, r, h, m, k). answer_by (along ps) ((descent_told l r (along ps)).1 h) ∙ roomy (room c) ps (omega arith) ∙ ap Of (sym m),
+    λ (l, ps, r, h, m, k). answer_by (along ps) ((descent_told l r (along ps)).1 h) ∙ roomy (room c) ps (omega arith) ∙ ap Ok (sym m),
   )
 
-  written : (n : ℕ) → c.answer ≡ Of n
+  written : (n : ℕ) → c.answer ≡ Ok n
       → (l : List Entry) × Ready c l × OfTheCall c l (take n c.now.path) × (drop n c.now.path ≡ drop n c.was.path)
   written n e =
       let (ps, w, m, k) = descent_answered n e in
@@ -146,7 +146,7 @@ module _ (c : HotCall) where
         ap (drop n) now ∙ drop_over c.was.path 0 ps n (omega arith),
       )
 
-  empty : (c.answer ≡ Of 0) ↔ ((l : List Entry) × Ready c l × NoneValued (value_of c.question) l 0)
+  empty : (c.answer ≡ Ok 0) ↔ ((l : List Entry) × Ready c l × NoneValued (value_of c.question) l 0)
   empty = (
     λ e. let (l, ps, r, h, m, k) = (answered 0).0 e in (l, r, none l ps h m),
     λ (l, r, h). (answered 0).1 (l, [], r, h, refl, omega arith),
@@ -156,14 +156,14 @@ module _ (c : HotCall) where
       none l [] h m = h
       none l (p ∷ ps) h m = absurd (omega arith)
 
-  says_16 : (l : List Entry) → Ready c l → (c.answer ≡ Refused No.NotFinite) ↔ ((path : List ℕ) × MeetsNotFinite (value_of c.question) l path)
+  says_16 : (l : List Entry) → Ready c l → (c.answer ≡ Err No.NotFinite) ↔ ((path : List ℕ) × MeetsNotFinite (value_of c.question) l path)
   says_16 l r = (λ e. to (descent_refused No.NotFinite e), λ m. stopped_by No.NotFinite ((descent_told l r (stopped No.NotFinite)).1 (refl, m)))
     where
       to : (descent ≡ stopped No.NotFinite) ⊎ NoRoom No.NotFinite → (path : List ℕ) × MeetsNotFinite (value_of c.question) l path
       to (inl w) = ((descent_told l r (stopped No.NotFinite)).0 w).1
       to (inr s) = absurd (omega (arith, ap number_of s.0))
 
-  says_17 : (l : List Entry) → Ready c l → (c.answer ≡ Refused No.Room) ↔ ((path : List ℕ) × OfTheCall c l path × (room c < length path))
+  says_17 : (l : List Entry) → Ready c l → (c.answer ≡ Err No.Room) ↔ ((path : List ℕ) × OfTheCall c l path × (room c < length path))
   says_17 l r = (
     λ e. to (descent_refused No.Room e),
     λ (ps, h, k). answer_by (along ps) ((descent_told l r (along ps)).1 h) ∙ short (room c) ps k,
@@ -187,7 +187,7 @@ module _ (c : HotCall) where
       let value = value_of c.question in
       within_levels value l depth_limit 0 path ((descent_iff value l (whole_arrays asked l r.trail) (along path)).1 h)
 
-  refused_by : (r : Refusal) → c.answer ≡ Refused r → OfWalk c r ⊎ (OfBlock c r ⊎ OfPath c r)
+  refused_by : (r : Refusal) → c.answer ≡ Err r → OfWalk c r ⊎ (OfBlock c r ⊎ OfPath c r)
   refused_by r e = ⊎_elim (λ w. by w (sound_or_stopped (stopped r) w)) (λ (s, (ps, w, k)). inr (inr (of_room s (along_ready ps w)))) (descent_refused r e)
     where
       of_room : r ≡ No.Room → (l : List Entry) × Ready c l → OfPath c r

@@ -1,4 +1,6 @@
 -- Along an array: the candidates of the contexts passed have a lead, and those of the contexts from p on follow them.
+use Rattle.std.specs.Option.{option_map}
+use Rattle.std.specs.Prelude.{Err, Option, Ok, Some, None}
 use Prim.Native.Nat.{ℕ, zero, suc, ◌+◌, ◌≤◌, ◌<◌}
 use mathlib.Core.Bool.{true, false}
 use mathlib.Core.List.{List, [], ◌∷◌, ◌++◌, append-nil, append_assoc}
@@ -9,19 +11,17 @@ use borrow.Author.Tests.{lt-ltb, le-ltb}
 use lib.Dec.{ltb}
 use Rattle.le.specs.Number.{number}
 use Rattle.refusal.specs.declared.Refusal.TheVariants as No
-use Rattle.refusal.specs.Check.{either}
+use Rattle.refusal.specs.Check.{either, Answer, Found}
 use Rattle.seq.specs.Lists.{All}
 use Rattle.float.specs.Float.{finite}
 use Rattle.block.specs.declared.Shape.{Shape}
 use Rattle.block.specs.declared.Block.{Block}
-use Rattle.block.specs.declared.Lookup.{Lookup}
 use Rattle.block.specs.Block.{profile_shape, lookup_in}
 use Rattle.open.specs.Opening.{field}
 use Rattle.context.specs.Context.{children_bytes, children_place, ctx_id, extent, children_end}
 use Rattle.context.proofs.Siblings.{takes_some}
 use Rattle.traversal.specs.Children.{places_from, places_at, ArrayInside}
 use Rattle.hot_path.specs.declared.Lead.{Lead}
-use Rattle.hot_path.specs.declared.Hottest.TheVariants as Hottest
 use Rattle.hot_path.specs.HotPath.{Candidate, candidate, candidates, hottest_of}
 use Rattle.hot_path.specs.State.{lead_with}
 use Rattle.hot_path.proofs.Leads.{Leads, leads_none, leads_more, leads_nowhere, leads_at, not_finite}
@@ -41,13 +41,13 @@ module _ (file : List ℕ) (at : ℕ) where
   unfolding field
   id_read e = e
 
-pub value_read : (db : List ℕ) (b : Block) (meta : List ℕ) (p metric : ℕ) {h : Shape} {id : ℕ} {r : Lookup} → r ≡ lookup_in db h b id metric
-    → h ≡ profile_shape → id ≡ number 4 meta (p + 16) → lookup_in db profile_shape b (field meta p ctx_id) metric ≡ r
-value_read db b meta p metric e s i = sym (e ∙ rw (s, id_read meta p i))
+pub value_read : (db : List ℕ) (b : Block) (meta : List ℕ) (p metric : ℕ) {h : Shape} {id : ℕ} {r : Option ℕ} → r ≡ lookup_in db h b id metric
+    → h ≡ profile_shape → id ≡ number 4 meta (p + 16) → ◌≡◌ {A = Answer (Option ℕ)} (Ok (lookup_in db profile_shape b (field meta p ctx_id) metric)) (Ok r)
+value_read db b meta p metric e s i = ap Ok (sym (e ∙ rw (s, id_read meta p i)))
 
 -- ---- along it
 
-no_candidates : (value : ℕ → Lookup) → candidates (λ p. p) value [] ≡ []
+no_candidates : (value : ℕ → Answer (Option ℕ)) → candidates (λ p. p) value [] ≡ []
 unfolding candidates
 no_candidates value = refl
 
@@ -56,7 +56,7 @@ unfolding places_from either
 ends_here file zero p stop h = refl
 ends_here file (suc bound) p stop h = rw (le-ltb p stop h)
 
-module _ (file : List ℕ) (value : ℕ → Lookup) (at : ℕ) where
+module _ (file : List ℕ) (value : ℕ → Answer (Option ℕ)) (at : ℕ) where
   abbrev stop : ℕ
   stop = children_end file at
 
@@ -69,7 +69,7 @@ module _ (file : List ℕ) (value : ℕ → Lookup) (at : ℕ) where
   abbrev Fits : List ℕ → Type 0
   Fits ps = All (λ p. p + extent file p ≤ stop) ps
 
-  pub record Seeking (p : ℕ) (t : Lead) : Type 0 where
+  pub record Seeking (p : ℕ) (t : Option Lead) : Type 0 where
     pub passed : List Candidate
     pub bound : ℕ
     pub enough : stop ≤ p + bound
@@ -77,7 +77,7 @@ module _ (file : List ℕ) (value : ℕ → Lookup) (at : ℕ) where
     pub fit : Fits (places_from file bound p stop)
     pub leads : Leads passed t
 
-  pub seeking_start : ArrayInside file at → Seeking (field file at children_place) (record { some = false; place = 0; bits = 0 })
+  pub seeking_start : ArrayInside file at → Seeking (field file at children_place) None
   seeking_start h = record {
     passed = [];
     bound = field file at children_bytes;
@@ -104,7 +104,7 @@ module _ (file : List ℕ) (value : ℕ → Lookup) (at : ℕ) where
       let g = rw t at f in
       record { bound = bound; enough = omega (arith, takes_some file p); parts = rw t at q; fits = g.0; fit = g.1 }
 
-  module _ {p : ℕ} {t : Lead} (s : Seeking p t) where
+  module _ {p : ℕ} {t : Option Lead} (s : Seeking p t) where
     here : p < stop → Next p s.passed
     here h = next p s.passed s.bound h s.enough s.parts s.fit
 
@@ -125,7 +125,7 @@ module _ (file : List ℕ) (value : ℕ → Lookup) (at : ℕ) where
           leads = s.leads;
         }
 
-    module _ (h : p < stop) (bits : ℕ) (e : value p ≡ Lookup.Found bits) where
+    module _ (h : p < stop) (bits : ℕ) (e : value p ≡ Found bits) where
       abbrev it : Candidate
       it = record { place = p; bits = bits }
 
@@ -147,7 +147,7 @@ module _ (file : List ℕ) (value : ℕ → Lookup) (at : ℕ) where
           }
 
       -- one that is not finite ends it
-      pub seeking_not : finite bits ≡ false → hottest_of all ≡ Hottest.Refused No.NotFinite
+      pub seeking_not : finite bits ≡ false → hottest_of all ≡ Err No.NotFinite
       seeking_not f = ap hottest_of parts_with ∙ not_finite s.passed it _ f
 
     -- at the end
@@ -157,8 +157,6 @@ module _ (file : List ℕ) (value : ℕ → Lookup) (at : ℕ) where
         none : (bound : ℕ) → from bound p ≡ []
         none bound = ap (candidates (λ p. p) value) (ends_here file bound p stop h) ∙ no_candidates value
 
-    pub seeking_nowhere : stop ≤ p → t.some ≡ false → hottest_of all ≡ Hottest.Nowhere
-    seeking_nowhere h e = ap hottest_of (passed_all h) ∙ leads_nowhere s.passed t s.leads e
-
-    pub seeking_at : stop ≤ p → t.some ≡ true → hottest_of all ≡ Hottest.At t.place
-    seeking_at h e = ap hottest_of (passed_all h) ∙ leads_at s.passed t s.leads e
+  pub seeking_all : {p : ℕ} (t : Option Lead) → Seeking p t → stop ≤ p → hottest_of all ≡ Ok (option_map (λ (t : Lead). t.place) t)
+  seeking_all None s h = ap hottest_of (passed_all s h) ∙ leads_nowhere s.passed s.leads
+  seeking_all (Some t) s h = ap hottest_of (passed_all s h) ∙ leads_at s.passed t s.leads

@@ -1,32 +1,29 @@
 -- The hot path in plain facts: of any call, as its caller sees it.
-use Rattle.std.specs.Prelude.{ℕ, ◌≤◌, ◌<◌, true, false, List, [], ◌∷◌, ◌++◌, ◌↔◌, ◌⊎◌, ◌≡◌, length, take, drop}
+use Rattle.refusal.specs.Check.{Answer, Found}
+use Rattle.std.specs.Prelude.{ℕ, ◌≤◌, ◌<◌, true, false, List, [], ◌∷◌, ◌++◌, ◌↔◌, ◌⊎◌, ◌≡◌, length, take, drop, Err, Ok, Option}
 use Rattle.refusal.specs.declared.Refusal.{Refusal}
 use Rattle.refusal.specs.declared.Refusal.TheVariants as No
 use Rattle.seq.specs.Lists.{In}
 use Rattle.float.specs.Float.{finite, less}
 use Rattle.open.specs.Format as Format
 use Rattle.block.specs.declared.Block.{Block}
-use Rattle.block.specs.declared.Lookup.{Lookup}
 use Rattle.block.specs.Block.{profile_shape}
-use Rattle.lookup.specs.declared.Checked.TheVariants as Checked
 use Rattle.lookup.specs.Demand2.{There}
 use Rattle.lookup.specs.Lookup.{profile_block}
 use Rattle.context.specs.Entry.{Entry}
 use Rattle.traversal.specs.declared.Walked.{Walked}
 use Rattle.traversal.specs.Traversal.{on, depth_limit, traversal}
 use Rattle.traversal.specs.Walk.{walk_of, walked_of}
-use Rattle.hot_path.specs.declared.HotPath.{HotPath}
-use Rattle.hot_path.specs.declared.HotPath.TheVariants.{Of, Refused}
 use Rattle.hot_path.specs.HotPath.{Question, PathSlices, walk_asked, value_of, the_answer, LeavesPath}
 
 -- ---- a way down, on a trail, by the value of each ctxId
 
-module _ (value : ℕ → Lookup) (l : List Entry) where
+module _ (value : ℕ → Answer (Option ℕ)) (l : List Entry) where
   -- a context on the trail with this parent, 0 for the roots, has a value
   pub record ValuedChild (parent : ℕ) (e : Entry) (bits : ℕ) : Type 0 where
     pub on_trail : In e l
     pub child : e.parent ≡ parent
-    pub has : value e.ctx_id ≡ Lookup.Found bits
+    pub has : value e.ctx_id ≡ Found bits
 
   pub record HottestChild (parent : ℕ) (e : Entry) : Type 0 where
     pub before : List Entry
@@ -65,7 +62,7 @@ module _ (value : ℕ → Lookup) (l : List Entry) where
 pub record HotCall : Type 0 where
   pub question : Question
   pub was : PathSlices
-  pub answer : HotPath
+  pub answer : Answer ℕ
   pub now : PathSlices
   pub promised : LeavesPath the_answer question was answer now
 
@@ -92,19 +89,19 @@ module _ (c : HotCall) where
   OfWalk r = ((n : ℕ) × (walk_answer ≡ Walked.Refused r n)) ⊎ ((r ≡ No.Room) × ((n : ℕ) × (walk_answer ≡ Walked.Truncated n)))
 
   abbrev pub OfBlock : Refusal → Type 0
-  OfBlock r = (n : ℕ) × (walk_answer ≡ Walked.Complete n) × (profile_block c.question.db c.question.profile ≡ Checked.Refused r)
+  OfBlock r = (n : ℕ) × (walk_answer ≡ Walked.Complete n) × (profile_block c.question.db c.question.profile ≡ Err r)
 
   abbrev pub OfPath : Refusal → Type 0
   OfPath r = (l : List Entry) × Ready l × ((r ≡ No.NotFinite) ⊎ (r ≡ No.Room))
 
   pub record HotPathSays : Type 0 where
     -- "whose first words receive the path's places, their number being the answer; the rest is untouched"
-    pub answered : (n : ℕ) → (c.answer ≡ Of n)
+    pub answered : (n : ℕ) → (c.answer ≡ Ok n)
         ↔ ((l : List Entry) × (path : List ℕ) × Ready l × OfTheCall l path × (n ≡ length path) × (n ≤ room))
-    pub written : (n : ℕ) → c.answer ≡ Of n
+    pub written : (n : ℕ) → c.answer ≡ Ok n
         → (l : List Entry) × Ready l × OfTheCall l (take n c.now.path) × (drop n c.now.path ≡ drop n c.was.path)
     -- where the walk ends whole and the block is there, either there is such a path, or the way down meets a value that is not finite
-    pub ready : (n : ℕ) (b : Block) → walk_answer ≡ Walked.Complete n → profile_block c.question.db c.question.profile ≡ Checked.Valid b
+    pub ready : (n : ℕ) (b : Block) → walk_answer ≡ Walked.Complete n → profile_block c.question.db c.question.profile ≡ Ok b
         → (l : List Entry) × Ready l
     pub path_or_not : (l : List Entry) → Ready l
         → ((path : List ℕ) × OfTheCall l path) ⊎ ((path : List ℕ) × MeetsNotFinite (value_of c.question) l path)
@@ -112,17 +109,17 @@ module _ (c : HotCall) where
     pub one_path : (l : List Entry) (path other : List ℕ) → Ready l → OfTheCall l path → OfTheCall l other → path ≡ other
     pub at_most : (l : List Entry) (path : List ℕ) → Ready l → OfTheCall l path → length path ≤ depth_limit
     -- "If no root has a value, the path is empty."
-    pub empty : (c.answer ≡ Of 0) ↔ ((l : List Entry) × Ready l × NoneValued (value_of c.question) l 0)
+    pub empty : (c.answer ≡ Ok 0) ↔ ((l : List Entry) × Ready l × NoneValued (value_of c.question) l 0)
     -- "Refusals: the walk's": "a cut walk gives 17"
-    pub walk_refused : (r : Refusal) (n : ℕ) → walk_answer ≡ Walked.Refused r n → c.answer ≡ Refused r
-    pub walk_cut : (n : ℕ) → walk_answer ≡ Walked.Truncated n → c.answer ≡ Refused No.Room
+    pub walk_refused : (r : Refusal) (n : ℕ) → walk_answer ≡ Walked.Refused r n → c.answer ≡ Err r
+    pub walk_cut : (n : ℕ) → walk_answer ≡ Walked.Truncated n → c.answer ≡ Err No.Room
     -- "then those of opening profile.db, 15 for the profile, those of its block"
     pub block_refused : (n : ℕ) → walk_answer ≡ Walked.Complete n → (r : Refusal)
-        → profile_block c.question.db c.question.profile ≡ Checked.Refused r → c.answer ≡ Refused r
+        → profile_block c.question.db c.question.profile ≡ Err r → c.answer ≡ Err r
     -- "then 16 if a value looked up on the way down is not finite, then 17 if the path slice is too short"
-    pub says_16 : (l : List Entry) → Ready l → (c.answer ≡ Refused No.NotFinite) ↔ ((path : List ℕ) × MeetsNotFinite (value_of c.question) l path)
-    pub says_17 : (l : List Entry) → Ready l → (c.answer ≡ Refused No.Room) ↔ ((path : List ℕ) × OfTheCall l path × (room < length path))
+    pub says_16 : (l : List Entry) → Ready l → (c.answer ≡ Err No.NotFinite) ↔ ((path : List ℕ) × MeetsNotFinite (value_of c.question) l path)
+    pub says_17 : (l : List Entry) → Ready l → (c.answer ≡ Err No.Room) ↔ ((path : List ℕ) × OfTheCall l path × (room < length path))
     -- and for nothing else
-    pub refused_by : (r : Refusal) → c.answer ≡ Refused r → OfWalk r ⊎ (OfBlock r ⊎ OfPath r)
+    pub refused_by : (r : Refusal) → c.answer ≡ Err r → OfWalk r ⊎ (OfBlock r ⊎ OfPath r)
     -- "the path slice is untouched then"
-    pub untouched : (r : Refusal) → c.answer ≡ Refused r → c.now.path ≡ c.was.path
+    pub untouched : (r : Refusal) → c.answer ≡ Err r → c.now.path ≡ c.was.path

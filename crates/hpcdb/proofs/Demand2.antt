@@ -1,5 +1,6 @@
 -- What a C program learns of a lookup when it lends eight bytes: the code tells found from absent from refused, and what is written are
 -- the value's very bytes.
+use Rattle.std.specs.Prelude.{Err, Option}
 use Prim.Native.Nat.{ℕ, ◌+◌, ◌≤◌}
 use mathlib.Core.List.{List, ◌++◌}
 use mathlib.Core.Logic.{◌↔◌}
@@ -11,7 +12,7 @@ use lib.Seq.{take-append_seam, drop-append_seam}
 use Rattle.le.specs.Number.{number}
 use Rattle.refusal.specs.declared.Refusal.{Refusal}
 use Rattle.refusal.specs.Number.{number_of}
-use Rattle.refusal.specs.Check.{either}
+use Rattle.refusal.specs.Check.{either, Answer, Found, Absent}
 use Rattle.refusal.specs.Words.{code_in}
 use Rattle.layout.specs.Bytes.{bytes}
 use Rattle.layout.proofs.Laws.{length_bytes}
@@ -22,47 +23,45 @@ use Rattle.refusal.proofs.Numbers.{positive, small}
 use Rattle.open.specs.Format as Format
 use Rattle.block.specs.declared.Shape.{Shape}
 use Rattle.block.specs.declared.Block.{Block}
-use Rattle.block.specs.Block.{profile_shape, cct_shape, lookup_words}
+use Rattle.block.specs.Block.{profile_shape, cct_shape, lookup_words, found_words}
 use Rattle.block.specs.Facts.{Holds}
 use Rattle.lookup.specs.Lookup.{profile_lookup, cct_lookup}
 use Rattle.lookup.specs.Demand2.{There, Says}
 use Rattle.lookup.proofs.Demand2.{demand2}
-use Rattle.block.specs.declared.Lookup.{Lookup}
-use Rattle.block.specs.declared.Lookup.TheVariants.{Found, Absent, Refused}
 use Rattle.hpcdb.specs.Value.{value_in, value_code, value_bytes}
 
 module _ (out : List ℕ) (l : 8 ≤ length out) where
   -- with room, the code is the answer's own
-  code_is : (answer : Lookup) {n : ℕ} → code_in (lookup_words answer) ≡ n → value_code out answer ≡ n
+  code_is : (answer : Answer (Option ℕ)) {n : ℕ} → code_in (lookup_words answer) ≡ n → value_code out answer ≡ n
   unfolding value_code either
   code_is answer e = rw (le-leb 8 (length out) l) e
 
-  refused_code : (r : Refusal) {n : ℕ} → value_code out (Refused r) ≡ n → number_of r ≡ n
-  unfolding value_code either lookup_words code_in
+  refused_code : (r : Refusal) {n : ℕ} → value_code out (Err r) ≡ n → number_of r ≡ n
+  unfolding value_code either lookup_words found_words code_in
   refused_code r e = rw (le-leb 8 (length out) l) at e
 
   -- 0 exactly if a value is found
-  pub code_0_iff : (answer : Lookup) → (value_code out answer ≡ 0) ↔ ((bits : ℕ) × (answer ≡ Found bits))
-  unfolding lookup_words code_in
+  pub code_0_iff : (answer : Answer (Option ℕ)) → (value_code out answer ≡ 0) ↔ ((bits : ℕ) × (answer ≡ Found bits))
+  unfolding lookup_words found_words code_in
   code_0_iff (Found bits) = (λ e. (bits, refl), λ k. code_is (Found bits) refl)
   code_0_iff Absent = (
     λ e. absurd (let z = code_is Absent {n = 100} refl in omega arith),
     λ k. absurd (let q = k.1 in let z : ◌≡◌ {A = ℕ} 0 1 = cc in omega arith),
   )
-  code_0_iff (Refused r) = (
+  code_0_iff (Err r) = (
     λ e. absurd (omega (arith, positive r, refused_code r e)),
     λ k. absurd (let q = k.1 in let z : ◌≡◌ {A = ℕ} 0 1 = cc in omega arith),
   )
 
   -- 100 exactly if the pair is absent
-  pub code_100_iff : (answer : Lookup) → (value_code out answer ≡ 100) ↔ (answer ≡ Absent)
-  unfolding lookup_words code_in
+  pub code_100_iff : (answer : Answer (Option ℕ)) → (value_code out answer ≡ 100) ↔ (answer ≡ Absent)
+  unfolding lookup_words found_words code_in
   code_100_iff (Found bits) = (
     λ e. absurd (let z = code_is (Found bits) {n = 0} refl in omega arith),
     λ q. absurd (let z : ◌≡◌ {A = ℕ} 0 1 = cc in omega arith),
   )
   code_100_iff Absent = (λ e. refl, λ q. code_is Absent refl)
-  code_100_iff (Refused r) = (
+  code_100_iff (Err r) = (
     λ e. absurd (omega (arith, small r, refused_code r e)),
     λ q. absurd (let z : ◌≡◌ {A = ℕ} 0 1 = cc in omega arith),
   )
@@ -88,7 +87,7 @@ module _ (out : List ℕ) (l : 8 ≤ length out) where
 
   -- ---- the customer's sentence, from C: by what a lookup says of its block (lookup/specs/Demand2.antt)
 
-  module _ {f : Format.Format} {h : Shape} {file : List ℕ} {i outer inner : ℕ} {answer : Lookup} (s : Says f h file i outer inner answer) where
+  module _ {f : Format.Format} {h : Shape} {file : List ℕ} {i outer inner : ℕ} {answer : Answer (Option ℕ)} (s : Says f h file i outer inner answer) where
     -- 0 exactly if the file opens and the asked block is there, well formed and holds the pair
     found_code : (value_code out answer ≡ 0) ↔ ((bits : ℕ) × ((b : Block) × (There f h file i b × Holds file h b outer inner bits)))
     found_code = (

@@ -1,5 +1,13 @@
 -- The codes of the C functions that answer with a string, by what the readers' own answers say: an answer in words has the number of its
 -- string, and the string's place and length first.
+use Rattle.std.specs.Prelude.{Err, Ok, Option}
+use Rattle.text.specs.declared.Text.{Text}
+use Rattle.meta.specs.declared.SourceFile.{SourceFile}
+use Rattle.metric.specs.declared.Metric.{Metric}
+use Rattle.metric.specs.declared.Scope.{Scope}
+use Rattle.metric.specs.declared.Summary.{Summary}
+use Rattle.function.specs.declared.Function.{Function}
+use Rattle.block.specs.declared.Block.{Block}
 use Prim.Native.Nat.{ℕ, zero, suc, ◌*◌, ◌≤◌}
 use mathlib.Core.Bool.{Bool, true, false}
 use mathlib.Core.List.{List, [], ◌∷◌}
@@ -13,38 +21,23 @@ use lib.ListN.{length, take}
 use Rattle.refusal.specs.declared.Refusal.{Refusal}
 use Rattle.refusal.specs.declared.Refusal.TheVariants as No
 use Rattle.refusal.specs.Number.{number_of}
-use Rattle.refusal.specs.Check.{code_of, either, rule, if_passed}
+use Rattle.refusal.specs.Check.{code_of, either, rule, if_passed, Answer, on_answer, Absent, Found}
 use Rattle.refusal.specs.Words.{code_in}
 use Rattle.refusal.proofs.Numbers.{positive, same_number}
-use Rattle.text.specs.declared.Text.{Text}
-use Rattle.text.specs.declared.Text.TheVariants as text
-use Rattle.text.specs.String.{text_words, text_code}
+use Rattle.text.specs.String.{text_words, text_code, given_text}
 use Rattle.text.specs.Facts.{Sited, HasText, StringSays, CodeSays}
-use Rattle.meta.specs.declared.SourceFile.{SourceFile}
-use Rattle.meta.specs.declared.SourceFile.TheVariants as source
 use Rattle.meta.specs.Names.{title_at, description_at, kind_at, module_at, source_at, source_words, source_text}
 use Rattle.meta.specs.Facts.{title_string, description_string, kind_string, module_string, source_string}
 use Rattle.meta.proofs.Says.{names_say}
-use Rattle.metric.specs.declared.Metric.{Metric}
-use Rattle.metric.specs.declared.Metric.TheVariants as metric
-use Rattle.metric.specs.declared.Scope.{Scope}
-use Rattle.metric.specs.declared.Scope.TheVariants as scope
-use Rattle.metric.specs.declared.Summary.{Summary}
-use Rattle.metric.specs.declared.Summary.TheVariants as summary
 use Rattle.metric.specs.Levels.{metric_at, scope_at, summary_at, metric_words, scope_words, summary_words, metric_text, scope_text, summary_text}
 use Rattle.metric.specs.Facts.{metric_string, scope_string, summary_string}
 use Rattle.metric.proofs.Says.{levels_say}
-use Rattle.function.specs.declared.Function.{Function}
-use Rattle.function.specs.declared.Function.TheVariants as function
 use Rattle.function.specs.Function.{function_at, function_words}
 use Rattle.function.specs.Facts.{p_name, FunctionThere, name_string}
 use Rattle.function.proofs.Says.{function_says, found_named, found_unnamed}
 use Rattle.block.specs.declared.Shape.{Shape}
-use Rattle.block.specs.declared.Lookup.{Lookup}
-use Rattle.block.specs.Block.{profile_shape, cct_shape, lookup_words}
-use Rattle.lookup.specs.declared.Checked.{Checked}
-use Rattle.lookup.specs.declared.Checked.TheVariants as checked
-use Rattle.lookup.specs.Lookup.{on_checked, profile_block, cct_block, profile_lookup, cct_lookup}
+use Rattle.block.specs.Block.{profile_shape, cct_shape, lookup_words, found_words}
+use Rattle.lookup.specs.Lookup.{profile_block, cct_block, profile_lookup, cct_lookup}
 use Rattle.lookup.proofs.Demand2.{profile_block_numbers, cct_block_numbers, demand2}
 use Rattle.batch.specs.Batch.{pairs_in, refused_batch, batch_in, batch_of}
 use Rattle.words.specs.Convention.{words_in}
@@ -52,34 +45,34 @@ use Rattle.hpcdb.specs.Value.{value_code}
 use Rattle.hpcdb.specs.Strings.{WordsSay, FunctionWordsSay, StringsSay, LookupsNever19}
 
 -- words that have a text's number and, where it is 0, begin with its place and length
-record PutAs (t : Text) (words : List ℕ) : Type 0 where
+record PutAs (t : Answer Text) (words : List ℕ) : Type 0 where
   code : code_in words ≡ text_code t
-  first : (was : List ℕ) (p n : ℕ) → t ≡ text.At p n → take 2 (words_in was words) ≡ p ∷ n ∷ []
+  first : (was : List ℕ) (p n : ℕ) → t ≡ given_text p n → take 2 (words_in was words) ≡ p ∷ n ∷ []
 
-puts_text : (t : Text) → PutAs t (text_words t)
-unfolding text_words code_in words_in
-puts_text (text.At q m) = record { code = refl; first = λ was p n e. let y : q ≡ p = cc in let z : m ≡ n = cc in rw (y, z) }
-puts_text (text.Refused r) = record { code = refl; first = λ was p n e. absurd (let z : ◌≡◌ {A = ℕ} 0 1 = cc in omega arith) }
+puts_text : (t : Answer Text) → PutAs t (text_words t)
+unfolding code_in words_in
+puts_text (Ok it) = record { code = refl; first = λ was p n e. let y : it.place ≡ p = cc in let z : it.length ≡ n = cc in rw (y, z) }
+puts_text (Err r) = record { code = refl; first = λ was p n e. absurd (let z : ◌≡◌ {A = ℕ} 0 1 = cc in omega arith) }
 
-puts_source : (a : SourceFile) → PutAs (source_text a) (source_words a)
-unfolding source_text source_words text_words code_in words_in
-puts_source (source.Found q m copied) = record { code = refl; first = λ was p n e. let y : q ≡ p = cc in let z : m ≡ n = cc in rw (y, z) }
-puts_source (source.Refused r) = record { code = refl; first = λ was p n e. absurd (let z : ◌≡◌ {A = ℕ} 0 1 = cc in omega arith) }
+puts_source : (a : Answer SourceFile) → PutAs (source_text a) (source_words a)
+unfolding source_text code_in words_in
+puts_source (Ok it) = record { code = refl; first = λ was p n e. let y : it.path.place ≡ p = cc in let z : it.path.length ≡ n = cc in rw (y, z) }
+puts_source (Err r) = record { code = refl; first = λ was p n e. absurd (let z : ◌≡◌ {A = ℕ} 0 1 = cc in omega arith) }
 
-puts_metric : (a : Metric) → PutAs (metric_text a) (metric_words a)
-unfolding metric_text metric_words text_words code_in words_in
-puts_metric (metric.Found q m scopes) = record { code = refl; first = λ was p n e. let y : q ≡ p = cc in let z : m ≡ n = cc in rw (y, z) }
-puts_metric (metric.Refused r) = record { code = refl; first = λ was p n e. absurd (let z : ◌≡◌ {A = ℕ} 0 1 = cc in omega arith) }
+puts_metric : (a : Answer Metric) → PutAs (metric_text a) (metric_words a)
+unfolding metric_text code_in words_in
+puts_metric (Ok it) = record { code = refl; first = λ was p n e. let y : it.name.place ≡ p = cc in let z : it.name.length ≡ n = cc in rw (y, z) }
+puts_metric (Err r) = record { code = refl; first = λ was p n e. absurd (let z : ◌≡◌ {A = ℕ} 0 1 = cc in omega arith) }
 
-puts_scope : (a : Scope) → PutAs (scope_text a) (scope_words a)
-unfolding scope_text scope_words text_words code_in words_in
-puts_scope (scope.Found q m summaries prop) = record { code = refl; first = λ was p n e. let y : q ≡ p = cc in let z : m ≡ n = cc in rw (y, z) }
-puts_scope (scope.Refused r) = record { code = refl; first = λ was p n e. absurd (let z : ◌≡◌ {A = ℕ} 0 1 = cc in omega arith) }
+puts_scope : (a : Answer Scope) → PutAs (scope_text a) (scope_words a)
+unfolding scope_text code_in words_in
+puts_scope (Ok it) = record { code = refl; first = λ was p n e. let y : it.name.place ≡ p = cc in let z : it.name.length ≡ n = cc in rw (y, z) }
+puts_scope (Err r) = record { code = refl; first = λ was p n e. absurd (let z : ◌≡◌ {A = ℕ} 0 1 = cc in omega arith) }
 
-puts_summary : (a : Summary) → PutAs (summary_text a) (summary_words a)
-unfolding summary_text summary_words text_words code_in words_in
-puts_summary (summary.Found q m combine stat) = record { code = refl; first = λ was p n e. let y : q ≡ p = cc in let z : m ≡ n = cc in rw (y, z) }
-puts_summary (summary.Refused r) = record { code = refl; first = λ was p n e. absurd (let z : ◌≡◌ {A = ℕ} 0 1 = cc in omega arith) }
+puts_summary : (a : Answer Summary) → PutAs (summary_text a) (summary_words a)
+unfolding summary_text code_in words_in
+puts_summary (Ok it) = record { code = refl; first = λ was p n e. let y : it.formula.place ≡ p = cc in let z : it.formula.length ≡ n = cc in rw (y, z) }
+puts_summary (Err r) = record { code = refl; first = λ was p n e. absurd (let z : ◌≡◌ {A = ℕ} 0 1 = cc in omega arith) }
 
 as_it_was : (was words : List ℕ) → (code_in words ≡ 0 → ⊥) → words_in was words ≡ was
 unfolding code_in words_in
@@ -88,7 +81,7 @@ as_it_was was (zero ∷ values) h = absurd (h refl)
 as_it_was was (suc n ∷ values) h = refl
 
 module _ (file : List ℕ) where
-  says_words : (at : Sited) {t : Text} (words : List ℕ) → StringSays file at t → PutAs t words → WordsSay file at words
+  says_words : (at : Sited) {t : Answer Text} (words : List ℕ) → StringSays file at t → PutAs t words → WordsSay file at words
   says_words at words s puts = record {
     codes = subst (CodeSays file at) (sym puts.code) s.part.codes;
     out = λ was n read text. puts.first was at.place n ((s.place.handed-back at.place n).1 (read, (refl, text)));
@@ -97,25 +90,25 @@ module _ (file : List ℕ) where
 
   -- ---- a function
 
-  function_refused : (a : Function) (r : Refusal) → (code_in (function_words a) ≡ number_of r) ↔ (a ≡ function.Refused r)
-  unfolding function_words code_in
-  function_refused (function.Found name n m o f l) r = (
+  function_refused : (a : Answer Function) (r : Refusal) → (code_in (function_words a) ≡ number_of r) ↔ (a ≡ Err r)
+  unfolding code_in
+  function_refused (Ok it) r = (
     λ e. absurd (omega (arith, positive r)),
     λ e. absurd (let z : ◌≡◌ {A = ℕ} 0 1 = cc in omega arith),
   )
-  function_refused (function.Refused s) r = (λ e. ap function.Refused (same_number s r e), λ e. let z : s ≡ r = cc in ap number_of z)
+  function_refused (Err s) r = (λ e. ap Err (same_number s r e), λ e. let z : s ≡ r = cc in ap number_of z)
 
-  function_0 : (i : ℕ) (a : Function) → function_at file i ≡ a → code_in (function_words a) ≡ 0
+  function_0 : (i : ℕ) (a : Answer Function) → function_at file i ≡ a → code_in (function_words a) ≡ 0
       → (FunctionThere file i × (p_name file i ≡ 0))
       ⊎ ((name_string file i).Read × ((n : ℕ) × HasText file (name_string file i) n))
-  unfolding function_words code_in
-  function_0 i (function.Found name n m o f l) e z =
-      let h = ((function_says file i).found name n m o f l).0 e in
-      elim h.its_length [ inl none ↦ inl (h.there, none.0) | inr some ↦ inr ((h.there, some.0), (n, some.1)) ]
-  function_0 i (function.Refused r) e z = absurd (omega (arith, positive r))
+  unfolding code_in
+  function_0 i (Ok it) e z =
+      let h = ((function_says file i).found it.name.place it.name.length it.load_module it.offset it.file it.line).0 e in
+      elim h.its_length [ inl none ↦ inl (h.there, none.0) | inr some ↦ inr ((h.there, some.0), (it.name.length, some.1)) ]
+  function_0 i (Err r) e z = absurd (omega (arith, positive r))
 
   of_function : (i : ℕ) → FunctionWordsSay file i
-  unfolding function_words code_in words_in either
+  unfolding code_in words_in either
   of_function i =
       let says = function_says file i in
       record {
@@ -159,28 +152,28 @@ module _ (file : List ℕ) where
   other r (inr (inl k)) e = omega (arith, ap number_of k)
   other r (inr (inr k)) e = omega (arith, ap number_of k)
 
-  value_19 : (out : List ℕ) (a : Lookup) → ((r : Refusal) → a ≡ Lookup.Refused r → (number_of r ≤ 7) ⊎ ((r ≡ No.Order) ⊎ (r ≡ No.Index)))
+  value_19 : (out : List ℕ) (a : Answer (Option ℕ)) → ((r : Refusal) → a ≡ Err r → (number_of r ≤ 7) ⊎ ((r ≡ No.Order) ⊎ (r ≡ No.Index)))
       → value_code out a ≡ 19 → ⊥
-  unfolding value_code either lookup_words code_in
+  unfolding value_code either lookup_words found_words code_in
   value_19 out a numbers e = go (leb 8 (length out)) a numbers e
     where
-      go : (t : Bool) (a : Lookup) → ((r : Refusal) → a ≡ Lookup.Refused r → (number_of r ≤ 7) ⊎ ((r ≡ No.Order) ⊎ (r ≡ No.Index)))
+      go : (t : Bool) (a : Answer (Option ℕ)) → ((r : Refusal) → a ≡ Err r → (number_of r ≤ 7) ⊎ ((r ≡ No.Order) ⊎ (r ≡ No.Index)))
           → either t (code_in (lookup_words a)) (number_of No.Room) ≡ 19 → ⊥
-      go true (Lookup.Found bits) numbers e = omega arith
-      go true Lookup.Absent numbers e = omega arith
-      go true (Lookup.Refused r) numbers e = other r (numbers r refl) e
+      go true (Found bits) numbers e = omega arith
+      go true Absent numbers e = omega arith
+      go true (Err r) numbers e = other r (numbers r refl) e
       go false a numbers e = omega arith
 
-  batch_19 : (h : Shape) (c : Checked) (pairs was : List ℕ)
-      → ((r : Refusal) → c ≡ checked.Refused r → (number_of r ≤ 7) ⊎ ((r ≡ No.Order) ⊎ (r ≡ No.Index)))
+  batch_19 : (h : Shape) (c : Answer Block) (pairs was : List ℕ)
+      → ((r : Refusal) → c ≡ Err r → (number_of r ≤ 7) ⊎ ((r ≡ No.Order) ⊎ (r ≡ No.Index)))
       → code_of (batch_of file h c pairs was).check ≡ 19 → ⊥
-  unfolding batch_of batch_in on_checked if_passed rule code_of
+  unfolding batch_of batch_in on_answer rule code_of
   batch_19 h c pairs was numbers e = go (leb (2 * pairs_in pairs) (length was)) c numbers e
     where
-      go : (t : Bool) (c : Checked) → ((r : Refusal) → c ≡ checked.Refused r → (number_of r ≤ 7) ⊎ ((r ≡ No.Order) ⊎ (r ≡ No.Index)))
+      go : (t : Bool) (c : Answer Block) → ((r : Refusal) → c ≡ Err r → (number_of r ≤ 7) ⊎ ((r ≡ No.Order) ⊎ (r ≡ No.Index)))
           → code_of (if_passed (refused_batch was) (rule t No.Room) (batch_in file h c pairs was)).check ≡ 19 → ⊥
-      go true (checked.Valid b) numbers e = omega arith
-      go true (checked.Refused r) numbers e = other r (numbers r refl) e
+      go true (Ok b) numbers e = omega arith
+      go true (Err r) numbers e = other r (numbers r refl) e
       go false c numbers e = omega arith
 
   pub lookups_never_19 : LookupsNever19 file

@@ -1,6 +1,7 @@
 -- What a C program learns of a walk, from a mark or without one, by its code and `out`: 0 that the trail ends whole, a refusal's number that
 -- it ends so, and in both that all of it is listed; 101 that it has more contexts than the listing has words; 17 and 18 by the mark rules
 -- alone; and always how many are listed. Of the records: whose child each context is.
+use Rattle.refusal.specs.Check.{Passed}
 use Prim.Native.Nat.{ℕ, ◌≤◌, ◌<◌}
 use mathlib.Core.Bool.{true}
 use mathlib.Core.List.{List, [], ◌∷◌}
@@ -11,7 +12,6 @@ use native.Mathlib.Omega.{arith}
 use lib.ListN.{length}
 use Rattle.refusal.specs.declared.Refusal.{Refusal}
 use Rattle.refusal.specs.declared.Refusal.TheVariants as No
-use Rattle.refusal.specs.declared.Check.TheVariants as Check
 use Rattle.refusal.specs.Number.{number_of}
 use Rattle.refusal.specs.Words.{code_in}
 use Rattle.refusal.proofs.Numbers.{positive, small, same_number}
@@ -119,7 +119,7 @@ module _ (file : List ℕ) (m : Marks) (was : Slices) (code : ℕ) (out : List �
   pub walk_code_17 : (code ≡ 17) ↔ ((m.asks ≡ true) × (length was.mark < 805))
   walk_code_17 = rw code_is (Iff.trans (refused_code walk_call.answer No.Room) (outcomes walk_call).says_17)
 
-  pub walk_code_18 : (code ≡ 18) ↔ (Roomy walk_call × (opening meta file ≡ Check.Passed) × MarkFails walk_call)
+  pub walk_code_18 : (code ≡ 18) ↔ (Roomy walk_call × (opening meta file ≡ Passed) × MarkFails walk_call)
   walk_code_18 = rw code_is (Iff.trans (refused_code walk_call.answer No.Mark) (outcomes walk_call).says_18)
 
   -- a walk reads no string

@@ -1,5 +1,7 @@
 -- What a C program learns from hpcdb_profile_write, by its code and `out`: 0 says that the first out[0] bytes are the file of the lists, and
 -- that it reads back as they are; 15, 11, 7 and 17 which rule is the first that is broken. No other code is given.
+use Rattle.std.specs.Prelude.{Err, Ok}
+use Rattle.refusal.specs.Check.{Answer}
 use Prim.Native.Nat.{ℕ, ◌^◌, ◌≤◌, ◌<◌}
 use mathlib.Core.List.{List, [], ◌∷◌}
 use mathlib.Core.Logic.Iff
@@ -18,8 +20,6 @@ use Rattle.profile_file.specs.File.{profile_file}
 use Rattle.profile_file.specs.Facts.{CountsFit}
 use Rattle.profile_file.specs.ReadsBack.{ReadsBack}
 use Rattle.profile_lists.specs.Lists.{entries_in, survey_of}
-use Rattle.profile_writer.specs.declared.Written.{Written}
-use Rattle.profile_writer.specs.declared.Written.TheVariants.{Of, Refused}
 use Rattle.profile_writer.specs.Write.{write_answer, write_file, written_words}
 use Rattle.profile_writer.specs.Sent.{Listed, WriteSays}
 use Rattle.profile_writer.proofs.Says.{write_says}
@@ -28,26 +28,26 @@ use Rattle.words.proofs.Laws.{refused}
 
 -- ---- codes tell answers apart
 
-write_refused_code : (a : Written) (r : Refusal) → (code_in (written_words a) ≡ number_of r) ↔ (a ≡ Refused r)
-unfolding code_in written_words
-write_refused_code (Of n) r = (λ e. absurd (omega (arith, positive r)), λ e. absurd (let z : ◌≡◌ {A = ℕ} 0 1 = cc in omega arith))
-write_refused_code (Refused s) r = (λ e. ap Refused (same_number s r e), λ e. let q : s ≡ r = cc in ap number_of q)
+write_refused_code : (a : Answer ℕ) (r : Refusal) → (code_in (written_words a) ≡ number_of r) ↔ (a ≡ Err r)
+unfolding code_in
+write_refused_code (Ok n) r = (λ e. absurd (omega (arith, positive r)), λ e. absurd (let z : ◌≡◌ {A = ℕ} 0 1 = cc in omega arith))
+write_refused_code (Err s) r = (λ e. ap Err (same_number s r e), λ e. let q : s ≡ r = cc in ap number_of q)
 
-written_code : (a : Written) (was : List ℕ) → code_in (written_words a) ≡ 0 → (n : ℕ) × ((a ≡ Of n) × (words_in was (written_words a) ≡ n ∷ []))
-unfolding code_in written_words words_in
-written_code (Of n) was e = (n, (refl, refl))
-written_code (Refused s) was e = absurd (omega (arith, positive s))
+written_code : (a : Answer ℕ) (was : List ℕ) → code_in (written_words a) ≡ 0 → (n : ℕ) × ((a ≡ Ok n) × (words_in was (written_words a) ≡ n ∷ []))
+unfolding code_in words_in
+written_code (Ok n) was e = (n, (refl, refl))
+written_code (Err s) was e = absurd (omega (arith, positive s))
 
-code_of : (a : Written) (n : ℕ) → a ≡ Of n → code_in (written_words a) ≡ 0
-unfolding code_in written_words
+code_of : (a : Answer ℕ) (n : ℕ) → a ≡ Ok n → code_in (written_words a) ≡ 0
+unfolding code_in
 code_of a n e = rw e
 
 -- what is not written is refused, and leaves the words
-other_code : (a : Written) (was : List ℕ) → (code_in (written_words a) ≡ 0 → ⊥)
-    → (r : Refusal) × ((a ≡ Refused r) × (words_in was (written_words a) ≡ was))
-unfolding code_in written_words
-other_code (Of n) was e = absurd (e refl)
-other_code (Refused s) was e = (s, (refl, sym (refused was s [] refl refl).1))
+other_code : (a : Answer ℕ) (was : List ℕ) → (code_in (written_words a) ≡ 0 → ⊥)
+    → (r : Refusal) × ((a ≡ Err r) × (words_in was (written_words a) ≡ was))
+unfolding code_in
+other_code (Ok n) was e = absurd (e refl)
+other_code (Err s) was e = (s, (refl, sym (refused was s [] refl refl).1))
 
 -- ---- of a call
 
@@ -81,7 +81,7 @@ module _ (profiles tuples identifiers entries file : List ℕ) (octets : Octets 
       let h = written_code (write_answer profiles tuples identifiers entries (length file)) was e in
       (h.0, (h.1.1, (says.is_file h.0 h.1.0, (says.reads_back h.0 h.1.0, says.rest h.0 h.1.0))))
 
-  told_by : (r : Refusal) → (code_in words ≡ number_of r) ↔ (write_answer profiles tuples identifiers entries (length file) ≡ Refused r)
+  told_by : (r : Refusal) → (code_in words ≡ number_of r) ↔ (write_answer profiles tuples identifiers entries (length file) ≡ Err r)
   told_by = write_refused_code (write_answer profiles tuples identifiers entries (length file))
 
   -- any other code: the first rule that is broken, and no byte has changed
@@ -107,10 +107,10 @@ module _ (profiles tuples identifiers entries file : List ℕ) (octets : Octets 
   pub write_codes : (code_in words ≡ 0) ⊎ ((code_in words ≡ 15) ⊎ ((code_in words ≡ 11) ⊎ ((code_in words ≡ 7) ⊎ (code_in words ≡ 17))))
   write_codes = go (write_answer profiles tuples identifiers entries (length file)) refl
     where
-      go : (a : Written) → write_answer profiles tuples identifiers entries (length file) ≡ a
+      go : (a : Answer ℕ) → write_answer profiles tuples identifiers entries (length file) ≡ a
           → (code_in words ≡ 0) ⊎ ((code_in words ≡ 15) ⊎ ((code_in words ≡ 11) ⊎ ((code_in words ≡ 7) ⊎ (code_in words ≡ 17))))
-      go (Of n) e = inl (code_of (write_answer profiles tuples identifiers entries (length file)) n e)
-      go (Refused r) e = inr (rw ((told_by r).1 e) (says.no_other r e))
+      go (Ok n) e = inl (code_of (write_answer profiles tuples identifiers entries (length file)) n e)
+      go (Err r) e = inr (rw ((told_by r).1 e) (says.no_other r e))
 
   pub not_sent : (was : List ℕ) → (code_in (written_words (write_answer profiles tuples identifiers entries (length file))) ≡ 0 → ⊥)
       → (words_in was (written_words (write_answer profiles tuples identifiers entries (length file))) ≡ was)

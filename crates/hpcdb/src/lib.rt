@@ -26,11 +26,10 @@ ghost use Rattle.hot_path.specs.HotPath.{question, path_slices, LeavesPath, hot_
 ghost use Rattle.words.specs.Convention.{words_in, sections_words, counts_words};
 ghost use Rattle.hpcdb.specs.Value.{value_in, value_code, value_bytes};
 
-use block::Lookup;
 use open::{
     CONTEXT, FILES, FUNCTIONS, GENERAL, ID_NAMES, ID_TUPLES, INFOS, METRICS, MODULES, STRINGS,
 };
-use refusal::Check;
+use refusal::Refusal;
 
 // ---- meta.db
 
@@ -40,10 +39,8 @@ pub extern "C" fn hpcdb_meta_open(file: &[u8], out: &mut [u64; 16]) -> u32
     ensures value { result ≡ code_in (sections_words Format.meta file.now) }
     ensures out_after { out.new ≡ words_in out.old (sections_words Format.meta file.now) }
 {
-    let s = open::meta_sections(file);
-    let check = open::check_meta(file, &s);
-    match check {
-        Check::Passed => {
+    match open::open_meta(file) {
+        Ok(s) => {
             *out = [
                 s[GENERAL][0],
                 s[GENERAL][1],
@@ -64,7 +61,7 @@ pub extern "C" fn hpcdb_meta_open(file: &[u8], out: &mut [u64; 16]) -> u32
             ];
             0
         }
-        Check::Refused(r) => words::code(r),
+        Err(r) => u32::from(r),
     }
 }
 
@@ -74,13 +71,13 @@ pub extern "C" fn hpcdb_meta_counts(file: &[u8], out: &mut [u64; 5]) -> u32
     ensures value { result ≡ code_in (counts_words file.now) }
     ensures out_after { out.new ≡ words_in out.old (counts_words file.now) }
 {
-    let mut refusal = 0;
-    let counts = meta::counts(file, &mut refusal);
-    if refusal != 0 {
-        return refusal as u32;
+    match meta::counts(file) {
+        Ok(counts) => {
+            *out = counts;
+            0
+        }
+        Err(r) => u32::from(r),
     }
-    *out = counts;
-    0
 }
 
 // Place and length of a string.
@@ -89,7 +86,7 @@ pub extern "C" fn hpcdb_meta_title(file: &[u8], out: &mut [u64; 2]) -> u32
     ensures value { result ≡ code_in (text_words (title_at file.now)) }
     ensures out_after { out.new ≡ words_in out.old (text_words (title_at file.now)) }
 {
-    words::put_text(meta::title_at(file), out)
+    words::put(meta::title_at(file), out)
 }
 
 #[unsafe(no_mangle)]
@@ -97,7 +94,7 @@ pub extern "C" fn hpcdb_meta_description(file: &[u8], out: &mut [u64; 2]) -> u32
     ensures value { result ≡ code_in (text_words (description_at file.now)) }
     ensures out_after { out.new ≡ words_in out.old (text_words (description_at file.now)) }
 {
-    words::put_text(meta::description_at(file), out)
+    words::put(meta::description_at(file), out)
 }
 
 #[unsafe(no_mangle)]
@@ -105,7 +102,7 @@ pub extern "C" fn hpcdb_meta_id_name(file: &[u8], kind: u64, out: &mut [u64; 2])
     ensures value { result ≡ code_in (text_words (kind_at file.now kind)) }
     ensures out_after { out.new ≡ words_in out.old (text_words (kind_at file.now kind)) }
 {
-    words::put_text(meta::kind_at(file, kind), out)
+    words::put(meta::kind_at(file, kind), out)
 }
 
 // Place and length of a metric's name, and the number of its scopes.
@@ -114,7 +111,7 @@ pub extern "C" fn hpcdb_meta_metric(file: &[u8], i: u64, out: &mut [u64; 3]) -> 
     ensures value { result ≡ code_in (metric_words (metric_at file.now i)) }
     ensures out_after { out.new ≡ words_in out.old (metric_words (metric_at file.now i)) }
 {
-    words::put_metric(metric::metric_at(file, i), out)
+    words::put(metric::metric_at(file, i), out)
 }
 
 // Place and length of a scope's name, the number of its summaries, and propMetricId.
@@ -123,7 +120,7 @@ pub extern "C" fn hpcdb_meta_scope(file: &[u8], i: u64, j: u64, out: &mut [u64; 
     ensures value { result ≡ code_in (scope_words (scope_at file.now i j)) }
     ensures out_after { out.new ≡ words_in out.old (scope_words (scope_at file.now i j)) }
 {
-    words::put_scope(metric::scope_at(file, i, j), out)
+    words::put(metric::scope_at(file, i, j), out)
 }
 
 // Place and length of a summary's formula, combine, and statMetricId.
@@ -132,7 +129,7 @@ pub extern "C" fn hpcdb_meta_summary(file: &[u8], i: u64, j: u64, k: u64, out: &
     ensures value { result ≡ code_in (summary_words (summary_at file.now i j k)) }
     ensures out_after { out.new ≡ words_in out.old (summary_words (summary_at file.now i j k)) }
 {
-    words::put_summary(metric::summary_at(file, i, j, k), out)
+    words::put(metric::summary_at(file, i, j, k), out)
 }
 
 #[unsafe(no_mangle)]
@@ -140,7 +137,7 @@ pub extern "C" fn hpcdb_meta_module(file: &[u8], i: u64, out: &mut [u64; 2]) -> 
     ensures value { result ≡ code_in (text_words (module_at file.now i)) }
     ensures out_after { out.new ≡ words_in out.old (text_words (module_at file.now i)) }
 {
-    words::put_text(meta::module_at(file, i), out)
+    words::put(meta::module_at(file, i), out)
 }
 
 // Place and length of a file's path, and 1 if it was copied.
@@ -149,7 +146,7 @@ pub extern "C" fn hpcdb_meta_file(file: &[u8], i: u64, out: &mut [u64; 3]) -> u3
     ensures value { result ≡ code_in (source_words (source_at file.now i)) }
     ensures out_after { out.new ≡ words_in out.old (source_words (source_at file.now i)) }
 {
-    words::put_source(meta::source_file(file, i), out)
+    words::put(meta::source_file(file, i), out)
 }
 
 // 1 if a function has no name; place and length of the name, module, offset, file and line.
@@ -158,7 +155,7 @@ pub extern "C" fn hpcdb_meta_function(file: &[u8], i: u64, out: &mut [u64; 7]) -
     ensures value { result ≡ code_in (function_words (function_at file.now i)) }
     ensures out_after { out.new ≡ words_in out.old (function_words (function_at file.now i)) }
 {
-    words::put_function(function::function_at(file, i), out)
+    words::put(function::function_at(file, i), out)
 }
 
 // The walk of the contexts. The number listed is written whatever the end: 0 whole, 101 cut, else the refusal's number.
@@ -220,7 +217,7 @@ pub extern "C" fn hpcdb_profile_open(file: &[u8], out: &mut [u64; 1]) -> u32
     ensures value { result ≡ code_in (count_words (count_of Format.profile file.now)) }
     ensures out_after { out.new ≡ words_in out.old (count_words (count_of Format.profile file.now)) }
 {
-    words::put_count(count::profiles(file), out)
+    words::put(count::profiles(file), out)
 }
 
 // How many contexts there are.
@@ -229,7 +226,7 @@ pub extern "C" fn hpcdb_cct_open(file: &[u8], out: &mut [u64; 1]) -> u32
     ensures value { result ≡ code_in (count_words (count_of Format.cct file.now)) }
     ensures out_after { out.new ≡ words_in out.old (count_words (count_of Format.cct file.now)) }
 {
-    words::put_count(count::contexts(file), out)
+    words::put(count::contexts(file), out)
 }
 
 // How many lines there are.
@@ -238,7 +235,7 @@ pub extern "C" fn hpcdb_trace_open(file: &[u8], out: &mut [u64; 1]) -> u32
     ensures value { result ≡ code_in (count_words (count_of Format.trace file.now)) }
     ensures out_after { out.new ≡ words_in out.old (count_words (count_of Format.trace file.now)) }
 {
-    words::put_count(count::lines(file), out)
+    words::put(count::lines(file), out)
 }
 
 // Place and size of each section.
@@ -247,14 +244,12 @@ pub extern "C" fn hpcdb_profile_sections(file: &[u8], out: &mut [u64; 4]) -> u32
     ensures value { result ≡ code_in (sections_words Format.profile file.now) }
     ensures out_after { out.new ≡ words_in out.old (sections_words Format.profile file.now) }
 {
-    let s = open::profile_sections(file);
-    let check = open::check_profile(file, s);
-    match check {
-        Check::Passed => {
+    match open::open_profile(file) {
+        Ok(s) => {
             *out = [s[INFOS][0], s[INFOS][1], s[ID_TUPLES][0], s[ID_TUPLES][1]];
             0
         }
-        Check::Refused(r) => words::code(r),
+        Err(r) => u32::from(r),
     }
 }
 
@@ -263,14 +258,12 @@ pub extern "C" fn hpcdb_cct_sections(file: &[u8], out: &mut [u64; 2]) -> u32
     ensures value { result ≡ code_in (sections_words Format.cct file.now) }
     ensures out_after { out.new ≡ words_in out.old (sections_words Format.cct file.now) }
 {
-    let s = open::single_section(file);
-    let check = open::check_cct(file, s);
-    match check {
-        Check::Passed => {
+    match open::open_cct(file) {
+        Ok(s) => {
             *out = [s[INFOS][0], s[INFOS][1]];
             0
         }
-        Check::Refused(r) => words::code(r),
+        Err(r) => u32::from(r),
     }
 }
 
@@ -279,14 +272,12 @@ pub extern "C" fn hpcdb_trace_sections(file: &[u8], out: &mut [u64; 2]) -> u32
     ensures value { result ≡ code_in (sections_words Format.trace file.now) }
     ensures out_after { out.new ≡ words_in out.old (sections_words Format.trace file.now) }
 {
-    let s = open::single_section(file);
-    let check = open::check_trace(file, s);
-    match check {
-        Check::Passed => {
+    match open::open_trace(file) {
+        Ok(s) => {
             *out = [s[INFOS][0], s[INFOS][1]];
             0
         }
-        Check::Refused(r) => words::code(r),
+        Err(r) => u32::from(r),
     }
 }
 
@@ -296,7 +287,7 @@ pub extern "C" fn hpcdb_profile_tuple(file: &[u8], profile: u64, out: &mut [u64;
     ensures value { result ≡ code_in (tuple_words (tuple_at file.now profile)) }
     ensures out_after { out.new ≡ words_in out.old (tuple_words (tuple_at file.now profile)) }
 {
-    words::put_tuple(tuple::tuple_at(file, profile), out)
+    words::put(tuple::tuple_at(file, profile), out)
 }
 
 // Kind, flags, logicalId and physicalId.
@@ -310,7 +301,7 @@ pub extern "C" fn hpcdb_profile_identifier(
     ensures value { result ≡ code_in (identifier_words (identifier_at file.now profile k)) }
     ensures out_after { out.new ≡ words_in out.old (identifier_words (identifier_at file.now profile k)) }
 {
-    words::put_identifier(tuple::identifier_at(file, profile, k), out)
+    words::put(tuple::identifier_at(file, profile, k), out)
 }
 
 // Count; profile and bits of the smallest value, and of the greatest; bits of the sum.
@@ -324,7 +315,7 @@ pub extern "C" fn hpcdb_cct_totals(
     ensures value { result ≡ code_in (totals_words (cct_totals file.now context metric)) }
     ensures out_after { out.new ≡ words_in out.old (totals_words (cct_totals file.now context metric)) }
 {
-    words::put_totals(cct::totals(file, context, metric), out)
+    words::put_found(cct::totals(file, context, metric), out)
 }
 
 // The line's profile, and the number of its samples.
@@ -333,7 +324,7 @@ pub extern "C" fn hpcdb_trace_line(file: &[u8], i: u64, out: &mut [u64; 2]) -> u
     ensures value { result ≡ code_in (line_words (line_at file.now i)) }
     ensures out_after { out.new ≡ words_in out.old (line_words (line_at file.now i)) }
 {
-    words::put_line(trace::line_at(file, i), out)
+    words::put(trace::line_at(file, i), out)
 }
 
 // Timestamp and context.
@@ -342,7 +333,7 @@ pub extern "C" fn hpcdb_trace_sample(file: &[u8], i: u64, k: u64, out: &mut [u64
     ensures value { result ≡ code_in (sample_words (sample_at file.now i k)) }
     ensures out_after { out.new ≡ words_in out.old (sample_words (sample_at file.now i k)) }
 {
-    words::put_sample(trace::sample_at(file, i, k), out)
+    words::put(trace::sample_at(file, i, k), out)
 }
 
 // Position, timestamp and context of the last sample not later.
@@ -351,7 +342,7 @@ pub extern "C" fn hpcdb_trace_at(file: &[u8], i: u64, time: u64, out: &mut [u64;
     ensures value { result ≡ code_in (last_words (last_at file.now i time)) }
     ensures out_after { out.new ≡ words_in out.old (last_words (last_at file.now i time)) }
 {
-    words::put_last(trace::last_at(file, i, time), out)
+    words::put_found(trace::last_at(file, i, time), out)
 }
 
 // ---- a new profile.db
@@ -370,7 +361,7 @@ pub extern "C" fn hpcdb_profile_write(
     ensures words { out.new ≡ words_in out.old (written_words (write_answer profiles.now tuples.now identifiers.now entries.now (length file.old))) }
     ensures bytes { file.new ≡ write_file profiles.now tuples.now identifiers.now entries.now file.old }
 {
-    words::put_written(
+    words::put(
         profile_writer::write(profiles, tuples, identifiers, entries, file),
         out,
     )
@@ -397,7 +388,7 @@ pub extern "C" fn hpcdb_hot_path(
         (question meta_db.now profile_db.now profile metric)
         (path_slices listing.old table.old hot.old))) }
 {
-    words::put_hot_path(
+    words::put(
         hot_path::find(meta_db, profile_db, profile, metric, listing, table, hot),
         out,
     )
@@ -406,18 +397,18 @@ pub extern "C" fn hpcdb_hot_path(
 // ---- lookups
 
 // The code, and the value in the first eight bytes.
-fn put_value(answer: Lookup, out: &mut [u8]) -> u32
+fn put_value(answer: Result<Option<u64>, Refusal>, out: &mut [u8]) -> u32
     requires { 8 ≤ length out.old }
     ensures value { result ≡ code_in (lookup_words answer) }
     ensures out_after { out.new ≡ value_in out.old answer }
 {
     match answer {
-        Lookup::Found(bits) => {
+        Ok(Some(bits)) => {
             put::store_u64(out, 0, bits);
             0
         }
-        Lookup::Absent => 100,
-        Lookup::Refused(r) => words::code(r),
+        Ok(None) => 100,
+        Err(r) => u32::from(r),
     }
 }
 
@@ -467,7 +458,7 @@ pub extern "C" fn hpcdb_profile_lookup_many(
     ensures value { result ≡ code_of (profile_batch file.now profile asked.now answers.old).check }
     ensures answers_after { answers.new ≡ (profile_batch file.now profile asked.now answers.old).answers }
 {
-    refusal::code(batch::profile_lookups(file, profile, asked, answers)) as u32
+    refusal::code(&batch::profile_lookups(file, profile, asked, answers))
 }
 
 // Many values of one block, by pairs of metrics and profiles: two words for each, 0 and the bits, or 100 and 0.
@@ -481,7 +472,7 @@ pub extern "C" fn hpcdb_cct_lookup_many(
     ensures value { result ≡ code_of (cct_batch file.now context asked.now answers.old).check }
     ensures answers_after { answers.new ≡ (cct_batch file.now context asked.now answers.old).answers }
 {
-    refusal::code(batch::cct_lookups(file, context, asked, answers)) as u32
+    refusal::code(&batch::cct_lookups(file, context, asked, answers))
 }
 
 // ---- old DCPI sample files
@@ -492,7 +483,7 @@ pub extern "C" fn hpcdb_dcpi_totals(samples: &[u8], out: &mut [u64; 2]) -> u32
     ensures value { result ≡ code_in (sample_totals_words (sample_totals samples.now)) }
     ensures out_after { out.new ≡ words_in out.old (sample_totals_words (sample_totals samples.now)) }
 {
-    words::put_sample_totals(dcpi::totals(samples), out)
+    words::put(dcpi::totals(samples), out)
 }
 
 // The count for an offset.
@@ -501,7 +492,7 @@ pub extern "C" fn hpcdb_dcpi_lookup(samples: &[u8], offset: u64, out: &mut [u64;
     ensures value { result ≡ code_in (sample_count_words (sample_lookup samples.now offset)) }
     ensures out_after { out.new ≡ words_in out.old (sample_count_words (sample_lookup samples.now offset)) }
 {
-    words::put_sample_count(dcpi::lookup(samples, offset), out)
+    words::put_found(dcpi::lookup(samples, offset), out)
 }
 
 // The counts that are not zero, as entries for hpcdb_profile_write: how many there are.
@@ -517,5 +508,5 @@ pub extern "C" fn hpcdb_dcpi_entries(
     ensures words { out.new ≡ words_in out.old (entry_count_words (list_answer samples.now (length entries.old))) }
     ensures bytes { entries.new ≡ list_entries samples.now profile metric entries.old }
 {
-    words::put_entry_count(dcpi_entries::list(samples, profile, metric, entries), out)
+    words::put(dcpi_entries::list(samples, profile, metric, entries), out)
 }

@@ -2,7 +2,7 @@
 use Prim.Native.Nat.{ℕ, zero, suc, ◌+◌, ◌*◌, ◌/◌, ◌%◌, ◌^◌, ◌≤◌, ◌<◌}
 use mathlib.Core.Bool.{Bool, true, false, ◌&&◌, and_assoc}
 use mathlib.Core.List.{List, [], ◌∷◌, ◌++◌}
-use mathlib.Core.Path.{◌≡◌, refl, sym, ◌∙◌}
+use mathlib.Core.Path.{◌≡◌, refl, sym, ap, ap₂, ◌∙◌}
 use native.Mathlib.Numerals.{add-one}
 use native.Mathlib.Omega.{arith}
 use borrow.Author.Tests.{eqb-true, eqb-false}
@@ -65,8 +65,19 @@ stands_halves s at t i m n h =
 pub all_stand : (s : List ℕ) (at : ℕ) (t : List ℕ) (n : ℕ) → length t ≡ n → stands s at (take n (drop 0 t)) ≡ stands s at t
 all_stand s at t n e = rw (take_all n t (omega arith))
 
+-- bytes that overlap
+absorbed : (a b c : Bool) → (a && b) && (b && c) ≡ a && (b && c)
+absorbed true true c = refl
+absorbed true false c = refl
+absorbed false b c = refl
+
 pub fourteen_stand : (s : List ℕ) (at : ℕ) (t : List ℕ) → length t ≡ 14
-    → stands s at (take 8 (drop 0 t)) && (stands s (at + 8) (take 4 (drop 8 t)) && stands s (at + 12) (take 2 (drop 12 t))) ≡ stands s at t
+    → stands s at (take 8 (drop 0 t)) && stands s (at + 6) (take 8 (drop 6 t)) ≡ stands s at t
 fourteen_stand s at t l =
-    let e : at + 12 ≡ at + 8 + 4 = omega arith in
-    rw (e, stands_halves s (at + 8) t 8 4 2 (omega arith), stands_halves s at t 0 8 6 (omega arith)) (all_stand s at t 14 l)
+    let a = stands s at (take 6 (drop 0 t)) in
+    let b = stands s (at + 6) (take 2 (drop 6 t)) in
+    let c = stands s (at + 6 + 2) (take 6 (drop 8 t)) in
+    let first : a && b ≡ stands s at (take 8 (drop 0 t)) = stands_halves s at t 0 6 2 (omega arith) in
+    let second : b && c ≡ stands s (at + 6) (take 8 (drop 6 t)) = stands_halves s (at + 6) t 6 2 6 (omega arith) in
+    let whole : a && stands s (at + 6) (take 8 (drop 6 t)) ≡ stands s at t = stands_halves s at t 0 6 8 (omega arith) ∙ all_stand s at t 14 l in
+    ap₂ ◌&&◌ (sym first) (sym second) ∙ (absorbed a b c ∙ (ap (λ y. a && y) second ∙ whole))

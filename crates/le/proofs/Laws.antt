@@ -4,10 +4,13 @@ use Prim.Native.Nat.{ℕ, zero, suc, ◌+◌, ◌-◌, ◌*◌, ◌^◌, ◌≤�
 use mathlib.Core.List.{List, [], ◌∷◌}
 use mathlib.Core.Path.{◌≡◌, refl, ap, sym, ◌∙◌}
 use native.Mathlib.Numerals.{add-one}
-use native.Mathlib.Nat.{zero-add, add-zero, suc-add, pow-succ', pow-le-pow_right, mul_assoc}
+use native.Mathlib.Nat.{zero-add, add-zero, suc-add, pow-succ', mul_assoc, mul_comm}
 use native.Mathlib.Decide.{dec_le}
 use native.Mathlib.Omega.{arith}
-use lib.ListN.{length, get_or, take, drop, drop_of_length-le}
+use Rattle.std.proofs.Common.{◌++◌, slice_index}
+use Rattle.std.proofs.lemmas.List.{take-take, take_min, drop-replicate, length-drop}
+use Rattle.std.specs.Int.{sum_through, byte_worth, from_le_bytes, w16, w32, w64}
+use lib.ListN.{length, get_or, take, drop, replicate, drop_of_length-le}
 use lib.Seq.{take-nil}
 use Rattle.le.specs.Number.{value, number}
 
@@ -56,41 +59,48 @@ clamped n s at i e =
       | no h ↦ past n s i (omega arith) ∙ sym (past n s at (omega arith))
     ]
 
--- byte by byte, the highest first: what is passed is the number of the bytes from k on
-pub record Passed (s : List ℕ) (i w n k : ℕ) : Type 0 where
-  pub within : k ≤ w
-  pub so_far : n ≡ number (w - k) s (i + k)
-  pub small : n < 256 ^ (w - k)
+-- what stands at a place, taken out
+pub taken : (n : ℕ) (s : List ℕ) (at : ℕ) {bytes : List ℕ} → bytes ≡ take (at + n - at) (drop at s) → number n bytes 0 ≡ number n s at
+unfolding number
+taken n s at e =
+    let same : n ≤ n = omega arith in
+    let size : at + n - at ≡ n = omega arith in
+    rw (e, size) (simp take-take)
 
-pub passed_start : (s : List ℕ) (i w : ℕ) → Passed s i w 0 w
-passed_start s i w =
-    let e : w - w ≡ 0 = omega arith in
-    record { within = omega arith; so_far = rw e (sym (none s (i + w))); small = rw e (omega arith) }
+-- zeros behind the bytes
+padded : (n k : ℕ) (s : List ℕ) → value (take n (s ++ replicate k 0)) ≡ value (take n s)
+padded zero k s = refl
+padded (suc n) zero [] = refl
+padded (suc n) (suc k) [] =
+    let rest : value (take n (replicate k 0)) ≡ 0 = padded n k [] ∙ ap value (take-nil n) in omega arith
+padded (suc n) k (x ∷ s) = ap (λ (r : ℕ). x + 256 * r) (padded n k s)
 
-module _ {s : List ℕ} {i w n k : ℕ} (p : Passed s i w n k) (l : 0 < k) where
-  -- what one byte more makes of it
-  next_small : {b : ℕ} → b < 256 → n * 256 + b < 256 ^ (w - (k - 1))
-  next_small h =
-      let e : w - (k - 1) ≡ suc (w - k) = omega (arith, p.within) in
-      rw (e, pow-succ') (omega (arith, p.small))
+-- what stands there of the file, and zeros
+pub filled : (n m : ℕ) (s : List ℕ) (at : ℕ) {i : ℕ} {bytes : List ℕ} → bytes ≡ take (i + m - i) (drop i s) → m ≡ min n (length s - i) → i ≡ min at (length s)
+    → number n (bytes ++ drop m (replicate n 0)) 0 ≡ number n s at
+unfolding number
+filled n m s at {i} {bytes} e f g =
+    let same : n ≤ n = omega arith in
+    let size : i + m - i ≡ m = omega arith in
+    let all : take m (drop i s) ≡ take n (drop i s) = rw (f, ← length-drop i s) (take_min _ _) in
+    let here : value (take n bytes) ≡ number n s i = rw (e, size, all) (simp take-take) in
+    rw drop-replicate (padded n (n - m) bytes ∙ (here ∙ clamped n s at i g))
 
-  pub next_fits : w ≤ 8 → {b : ℕ} → b < 256 → n * 256 + b < 256 ^ 8
-  next_fits m h =
-      let most : 256 ^ (w - (k - 1)) ≤ 256 ^ 8 = pow-le-pow_right {n = 256} (omega arith) {i = w - (k - 1)} {j = 8} (omega arith) in
-      omega (arith, next_small h)
+-- the sum over bytes
+pub summed : (w : ℕ) (s : List ℕ) → number (suc w) s 0 ≡ sum_through (λ i. byte_worth i (slice_index s i)) w
+summed zero s = one s 0
+summed (suc w) s =
+    let e : 0 + suc w ≡ suc w = omega arith in
+    rw (← add-one, split (suc w) 1 s 0, e, one s (suc w), summed w s, mul_comm (256 ^ suc w))
 
-  pub passed_more : {b : ℕ} → b ≡ number 1 s (i + (k - 1)) → b < 256 → Passed s i w (n * 256 + b) (k - 1)
-  passed_more {b} e h =
-      let f : w - (k - 1) ≡ suc (w - k) = omega (arith, p.within) in
-      let g : number (w - k) s (i + (k - 1) + 1) ≡ number (w - k) s (i + k) = ap (number (w - k) s) (omega arith) in
-      record {
-        within = omega (arith, p.within);
-        so_far = rw f (omega (arith, step (w - k) s (i + (k - 1)), one s (i + (k - 1)), p.so_far, g));
-        small = next_small h;
-      }
+-- at each width, as std's `from_le_bytes` has it
+pub word_2 : (s : List ℕ) → number 2 s 0 ≡ from_le_bytes w16 s
+word_2 = summed 1
 
-pub passed_all : {s : List ℕ} {i w n k : ℕ} → Passed s i w n k → k ≤ 0 → (n ≡ number w s i) × (n < 256 ^ w)
-passed_all {s} {i} {w} {n} {k} p l =
-    let e : w - k ≡ w = omega (arith, l) in
-    let f : i + k ≡ i = omega (arith, l) in
-    (rw (e, f) at p.so_far, rw e at p.small)
+pub word_4 : (s : List ℕ) → number 4 s 0 ≡ from_le_bytes w32 s
+word_4 = summed 3
+
+pub word_8 : (s : List ℕ) → number 8 s 0 ≡ from_le_bytes w64 s
+word_8 = summed 7
+
+pub ruleset words = (one, word_2, word_4, word_8)

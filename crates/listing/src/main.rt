@@ -4,18 +4,18 @@
 use std::io;
 
 fn list(rt: &impl Print, file: &[u8]) -> io::Result<()> {
-    let mut listing = [0u64; 1024];
-    let mut table = [0u64; 1024];
-    let mut records = [0u64; 1024 * context::RECORD];
+    let mut listing = [0; 1024];
+    let mut table = [0; 1024];
+    let mut records = [0; 1024 * context::RECORD];
     report::show(rt, file, &mut listing, &mut table, &mut records)?;
     Ok(())
 }
 
 fn main(rt: HostRuntime) -> io::Result<()> {
-    let mut buffer = [0u8; 32769];
-    let n = script::read_full(&mut rt.stdin(), &mut buffer)?;
-    if report::too_long(&rt, &buffer[..n])? {
+    let mut buffer = [0; 32769];
+    let file = script::read_full(&mut rt.stdin(), &mut buffer)?;
+    if report::too_long(&rt, file)? {
         return Ok(());
     }
-    list(&rt, &buffer[..n])
+    list(&rt, file)
 }

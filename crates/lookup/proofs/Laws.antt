@@ -1,45 +1,25 @@
 -- An element that is not there is refused with 15 alone; what a checked block is known to be; the section of cct.db as one of two.
-use Prim.Native.Nat.{ℕ, ◌+◌, ◌*◌}
-use mathlib.Core.Bool.{Bool, true, false}
+use Rattle.std.specs.Prelude.{Ok}
+use Prim.Native.Nat.{ℕ}
 use mathlib.Core.List.{List, [], ◌∷◌}
 use mathlib.Core.Logic.{inl, inr}
-use mathlib.Core.Path.{◌≡◌, refl, sym, ap, ◌∙◌}
-use lib.Dec.{ltb}
-use Rattle.refusal.specs.declared.Refusal.{Refusal}
-use Rattle.refusal.specs.declared.Refusal.TheVariants as No
-use Rattle.refusal.specs.Check.{either}
+use mathlib.Core.Path.{◌≡◌, refl}
 use Rattle.open.specs.Format as Format
 use Rattle.open.specs.Opening.{pairs}
-use Rattle.array.specs.declared.Array.{Array}
-use Rattle.array.specs.declared.Element.{Element}
-use Rattle.array.specs.Element.{element_at}
 use Rattle.block.specs.declared.Shape.{Shape}
 use Rattle.block.specs.declared.Block.{Block}
 use Rattle.outside.specs.Outside.{apart, apart_all, lies}
 use Rattle.block.specs.Block.{profile_shape, cct_shape, range_rule, block_check}
 use Rattle.block.specs.Sound.{SoundBlock}
 use Rattle.block.proofs.Ranges.{sound}
-use Rattle.lookup.specs.declared.Checked.TheVariants.{Valid}
 use Rattle.lookup.specs.Lookup.{checked_block, checked_at, profile_block, cct_block}
 use Rattle.lookup.proofs.Demand2.{profile_there_iff, cct_there_iff}
 
-refusal-of : Element → Refusal
-refusal-of (Element.At place) = No.Index
-refusal-of (Element.Refused r) = r
-
-pub only_index : (a : Array) (i : ℕ) {r : Refusal} → element_at a i ≡ Element.Refused r → r ≡ No.Index
-unfolding element_at either refusal-of
-only_index a i e = sym (ap refusal-of e) ∙ by (ltb i a.count)
-  where
-    by : (t : Bool) → refusal-of (either t (Element.At (a.place + i * a.stride)) (Element.Refused No.Index)) ≡ No.Index
-    by true = refl
-    by false = refl
-
 module _ (file : List ℕ) (i : ℕ) (b : Block) where
-  pub profile_sound : profile_block file i ≡ Valid b → SoundBlock file profile_shape b
+  pub profile_sound : profile_block file i ≡ Ok b → SoundBlock file profile_shape b
   profile_sound e = sound file profile_shape (pairs Format.profile file) b (inr refl, inl refl) ((profile_there_iff file i b).0 e).well-formed
 
-  pub cct_sound : cct_block file i ≡ Valid b → SoundBlock file cct_shape b
+  pub cct_sound : cct_block file i ≡ Ok b → SoundBlock file cct_shape b
   cct_sound e = sound file cct_shape (pairs Format.cct file) b (inl refl, inr refl) ((cct_there_iff file i b).0 e).well-formed
 
 -- beside the section of cct.db, one of size 0 counts for nothing

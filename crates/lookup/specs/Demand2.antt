@@ -1,6 +1,7 @@
 -- Demand 2 of lookups: "A lookup with room for its answer hands back a value exactly if the file opens and the asked block is there, well
 -- formed and holds that pair, and then the very bits stored; in such a block without the pair it says absent."
-use Rattle.std.specs.Prelude.{ℕ, ◌+◌, ◌*◌, ◌≤◌, ◌<◌, List, ◌↔◌, ◌⊎◌, ◌≡◌}
+use Rattle.refusal.specs.Check.{Answer, Found, Absent}
+use Rattle.std.specs.Prelude.{ℕ, ◌+◌, ◌*◌, ◌≤◌, ◌<◌, List, ◌↔◌, ◌⊎◌, ◌≡◌, Err, Option}
 use Rattle.refusal.specs.declared.Refusal.{Refusal}
 use Rattle.refusal.specs.declared.Refusal.TheVariants as No
 use Rattle.refusal.specs.Number.{number_of}
@@ -11,8 +12,6 @@ use Rattle.open.specs.Kept.{Opens}
 use Rattle.array.specs.Stored.{array_in}
 use Rattle.block.specs.declared.Shape.{Shape}
 use Rattle.block.specs.declared.Block.{Block}
-use Rattle.block.specs.declared.Lookup.{Lookup}
-use Rattle.block.specs.declared.Lookup.TheVariants.{Found, Absent, Refused}
 use Rattle.block.specs.Block.{profile_shape, cct_shape, block_at}
 use Rattle.block.specs.Facts.{WellFormed, Holds}
 use Rattle.lookup.specs.Lookup.{profile_lookup, cct_lookup}
@@ -25,11 +24,11 @@ pub record There (f : Format.Format) (h : Shape) (file : List ℕ) (i : ℕ) (b 
   pub well-formed : WellFormed file h (pairs f file) b
 
 -- what a lookup of two ids in the block of element i says
-pub record Says (f : Format.Format) (h : Shape) (file : List ℕ) (i outer inner : ℕ) (answer : Lookup) : Type 0 where
+pub record Says (f : Format.Format) (h : Shape) (file : List ℕ) (i outer inner : ℕ) (answer : Answer (Option ℕ)) : Type 0 where
   pub found : (bits : ℕ) → (answer ≡ Found bits) ↔ ((b : Block) × (There f h file i b × Holds file h b outer inner bits))
   pub absent : (answer ≡ Absent) ↔ ((b : Block) × (There f h file i b × ((bits : ℕ) → Holds file h b outer inner bits → ⊥)))
   -- it is refused by 1 to 7, 11 or 15: it reads no string, and gives no 19
-  pub numbers : (r : Refusal) → answer ≡ Refused r → (number_of r ≤ 7) ⊎ ((r ≡ No.Order) ⊎ (r ≡ No.Index))
+  pub numbers : (r : Refusal) → answer ≡ Err r → (number_of r ≤ 7) ⊎ ((r ≡ No.Order) ⊎ (r ≡ No.Index))
 
 -- in profile.db the block of a profile is asked for a context and a metric; in cct.db that of a context for a metric and a profile
 pub record Demand2 : Type 0 where

@@ -2,233 +2,124 @@
 // more than it has. A line has what was asked, the answer's number, its values, and its string; after a refusal values are 0.
 #![tactic(auto)]
 
-use function::Function;
-use meta::SourceFile;
-use metric::{Metric, Scope, Summary};
+use function::Name;
+use refusal::Refusal;
 use std::io;
 use std::rt::Files;
 
 // No UTF-8: it is handed back whole all the same.
 const PLACEHOLDER: [u8; 1] = [0xFF];
 
-fn word(rt: &impl Print, n: u64) -> io::Result<()> {
-    print!(rt; " {n}")
-}
-
+// A string, which ends a line.
 fn end(rt: &impl Print, bytes: &[u8]) -> io::Result<()> {
-    rt.write_all(b" ")?;
+    print!(rt; " ")?;
     rt.write_all(bytes)?;
     println!(rt)
 }
 
+// The answer's number, and the string; none where it is refused.
+fn string(rt: &impl Print, text: Result<&[u8], Refusal>) -> io::Result<()> {
+    print!(rt; " {}", refusal::code(&text))?;
+    end(rt, text.unwrap_or_default())
+}
+
 fn general(rt: &impl Print, file: &[u8]) -> io::Result<()> {
-    let mut refusal = 0u64;
-    let title = meta::title(file, &mut refusal);
-    print!(rt; "title {refusal}")?;
-    end(rt, title)?;
-    let description = meta::description(file, &mut refusal);
-    print!(rt; "description {refusal}")?;
-    end(rt, description)
+    print!(rt; "title")?;
+    string(rt, meta::title(file))?;
+    print!(rt; "description")?;
+    string(rt, meta::description(file))
 }
 
 fn kind(rt: &impl Print, file: &[u8], i: u64) -> io::Result<()> {
-    let mut refusal = 0u64;
-    let name = meta::kind_name(file, i, &mut refusal);
-    print!(rt; "kind {i} {refusal}")?;
-    end(rt, name)
+    print!(rt; "kind {i}")?;
+    string(rt, meta::kind_name(file, i))
 }
 
 fn module(rt: &impl Print, file: &[u8], i: u64) -> io::Result<()> {
-    let mut refusal = 0u64;
-    let path = meta::module_path(file, i, &mut refusal);
-    print!(rt; "module {i} {refusal}")?;
-    end(rt, path)
+    print!(rt; "module {i}")?;
+    string(rt, meta::module_path(file, i))
 }
 
 fn source(rt: &impl Print, file: &[u8], i: u64) -> io::Result<()> {
-    let mut refusal = 0u64;
-    let path = meta::source_path(file, i, &mut refusal);
-    let copied = match meta::source_file(file, i) {
-        SourceFile::Found {
-            place: _,
-            length: _,
-            copied,
-        } => copied,
-        SourceFile::Refused(_) => false,
-    };
-    print!(rt; "source {i} {refusal} {}", u8::from(copied))?;
-    end(rt, path)
+    let path = meta::source_path(file, i);
+    let copied = meta::source_file(file, i).is_ok_and(|source| source.copied);
+    print!(rt; "source {i} {} {}", refusal::code(&path), u8::from(copied))?;
+    end(rt, path.unwrap_or_default())
 }
 
 fn function(rt: &impl Print, file: &[u8], i: u64) -> io::Result<()> {
-    print!(rt; "function")?;
-    word(rt, i)?;
+    print!(rt; "function {i}")?;
     match function::function_at(file, i) {
-        Function::Found {
-            name: _,
-            length: _,
-            module,
-            offset,
-            file: source,
-            line,
-        } => {
-            word(rt, 0)?;
-            word(rt, module)?;
-            word(rt, offset)?;
-            word(rt, source)?;
-            word(rt, line)?;
-        }
-        Function::Refused(r) => {
-            word(rt, refusal::number(r))?;
-            word(rt, 0)?;
-            word(rt, 0)?;
-            word(rt, 0)?;
-            word(rt, 0)?;
-        }
+        Ok(f) => print!(rt; " 0 {} {} {} {}", f.load_module, f.offset, f.file, f.line)?,
+        Err(r) => print!(rt; " {} 0 0 0 0", u32::from(r))?,
     }
-    function_name(rt, file, &PLACEHOLDER, i)
-}
-
-fn function_name<'a>(
-    rt: &impl Print,
-    file: &'a [u8],
-    placeholder: &'a [u8],
-    i: u64,
-) -> io::Result<()> {
-    let mut which = 0u64;
-    let name = function::function_name(file, placeholder, i, &mut which);
-    word(rt, which)?;
+    let (which, name): (u32, &[u8]) = match function::function_name(file, &PLACEHOLDER, i) {
+        Ok(Name::Stored(name)) => (0, name),
+        Ok(Name::Placeholder(name)) => (100, name),
+        Err(r) => (u32::from(r), &[]),
+    };
+    print!(rt; " {which}")?;
     end(rt, name)
 }
 
-fn one(rt: &impl Print, file: &[u8], what: u64, i: u64) -> io::Result<()> {
-    match what {
-        0 => kind(rt, file, i),
-        1 => module(rt, file, i),
-        2 => source(rt, file, i),
-        _ => function(rt, file, i),
-    }
-}
-
-fn each(rt: &impl Print, file: &[u8], what: u64, n: u64) -> io::Result<()> {
-    for i in 0..n {
-        one(rt, file, what, i)?;
-    }
-    one(rt, file, what, n)
-}
-
 fn summary(rt: &impl Print, file: &[u8], m: u64, s: u64, k: u64) -> io::Result<()> {
-    let mut refusal = 0u64;
-    let formula = metric::summary_formula(file, m, s, k, &mut refusal);
-    print!(rt; "summary {m} {s} {k} {refusal}")?;
-    match metric::summary_at(file, m, s, k) {
-        Summary::Found {
-            formula: _,
-            length: _,
-            combine,
-            stat_metric_id,
-        } => {
-            word(rt, combine)?;
-            word(rt, stat_metric_id)?;
-        }
-        Summary::Refused(_) => {
-            word(rt, 0)?;
-            word(rt, 0)?;
-        }
-    }
-    end(rt, formula)
-}
-
-fn summaries(rt: &impl Print, file: &[u8], m: u64, s: u64, n: u64) -> io::Result<()> {
-    for k in 0..n {
-        summary(rt, file, m, s, k)?;
-    }
-    summary(rt, file, m, s, n)
+    let formula = metric::summary_formula(file, m, s, k);
+    let (combine, id) = metric::summary_at(file, m, s, k).map_or((0, 0), |summary| {
+        (summary.combine, summary.stat_metric_id)
+    });
+    print!(rt;
+        "summary {m} {s} {k} {} {combine} {id}",
+        refusal::code(&formula)
+    )?;
+    end(rt, formula.unwrap_or_default())
 }
 
 fn scope(rt: &impl Print, file: &[u8], m: u64, s: u64) -> io::Result<()> {
-    let mut refusal = 0u64;
-    let name = metric::scope_name(file, m, s, &mut refusal);
-    let (n, id) = match metric::scope_at(file, m, s) {
-        Scope::Found {
-            name: _,
-            length: _,
-            summaries,
-            prop_metric_id,
-        } => (summaries, prop_metric_id),
-        Scope::Refused(_) => (0, 0),
-    };
-    print!(rt; "scope {m} {s} {refusal} {n} {id}")?;
-    end(rt, name)?;
-    summaries(rt, file, m, s, n)
-}
-
-fn scopes(rt: &impl Print, file: &[u8], m: u64, n: u64) -> io::Result<()> {
-    for s in 0..n {
-        scope(rt, file, m, s)?;
-    }
-    scope(rt, file, m, n)
+    let name = metric::scope_name(file, m, s);
+    let (summaries, id) = metric::scope_at(file, m, s).map_or(
+        (0, 0),
+        |scope| (scope.summaries, scope.prop_metric_id),
+    );
+    print!(rt; "scope {m} {s} {} {summaries} {id}", refusal::code(&name))?;
+    end(rt, name.unwrap_or_default())?;
+    (0..=summaries).try_for_each(|k| summary(rt, file, m, s, k))
 }
 
 fn metric(rt: &impl Print, file: &[u8], m: u64) -> io::Result<()> {
-    let mut refusal = 0u64;
-    let name = metric::metric_name(file, m, &mut refusal);
-    let n = match metric::metric_at(file, m) {
-        Metric::Found {
-            name: _,
-            length: _,
-            scopes,
-        } => scopes,
-        Metric::Refused(_) => 0,
-    };
-    print!(rt; "metric {m} {refusal} {n}")?;
-    end(rt, name)?;
-    scopes(rt, file, m, n)
-}
-
-fn metrics(rt: &impl Print, file: &[u8], n: u64) -> io::Result<()> {
-    for m in 0..n {
-        metric(rt, file, m)?;
-    }
-    metric(rt, file, n)
+    let name = metric::metric_name(file, m);
+    let scopes = metric::metric_at(file, m).map_or(0, |metric| metric.scopes);
+    print!(rt; "metric {m} {} {scopes}", refusal::code(&name))?;
+    end(rt, name.unwrap_or_default())?;
+    (0..=scopes).try_for_each(|s| scope(rt, file, m, s))
 }
 
 fn show(rt: &impl Print, name: &[u8], file: &[u8]) -> io::Result<()> {
     print!(rt; "file")?;
     end(rt, name)?;
     general(rt, file)?;
-    let mut refusal = 0u64;
-    let [kinds, metric_count, modules, sources, functions] = meta::counts(file, &mut refusal);
-    println!(rt; "counts {refusal} {kinds} {metric_count} {modules} {sources} {functions}")?;
-    each(rt, file, 0, kinds)?;
-    each(rt, file, 1, modules)?;
-    each(rt, file, 2, sources)?;
-    each(rt, file, 3, functions)?;
-    metrics(rt, file, metric_count)
+    let counts = meta::counts(file);
+    let code = refusal::code(&counts);
+    let [kinds, metrics, modules, sources, functions] = counts.unwrap_or([0; 5]);
+    println!(rt; "counts {code} {kinds} {metrics} {modules} {sources} {functions}")?;
+    (0..=kinds).try_for_each(|i| kind(rt, file, i))?;
+    (0..=modules).try_for_each(|i| module(rt, file, i))?;
+    (0..=sources).try_for_each(|i| source(rt, file, i))?;
+    (0..=functions).try_for_each(|i| function(rt, file, i))?;
+    (0..=metrics).try_for_each(|m| metric(rt, file, m))
 }
 
 fn case(rt: &(impl Files + Print + Eprint), name: &[u8]) -> io::Result<()> {
-    let mut buffer = [0u8; 4096];
-    let Some(n) = script::read_file(rt, name, &mut buffer)? else {
-        return Ok(());
-    };
-    show(rt, name, &buffer[..n])
-}
-
-fn each_line(rt: &(impl Files + Print + Eprint), list: &[u8]) -> io::Result<()> {
-    let mut at = 0;
-    while at < list.len() {
-        let name = script::line(list, at);
-        case(rt, name)?;
-        at = at + name.len() + 1;
+    let mut buffer = [0; 4096];
+    match script::read_file(rt, name, &mut buffer)? {
+        Some(file) => show(rt, name, file),
+        None => Ok(()),
     }
-    Ok(())
 }
 
 fn main(rt: HostRuntime) -> io::Result<()> {
-    let mut buffer = [0u8; 4096];
-    let Some(n) = script::read_file(&rt, b"list", &mut buffer)? else {
+    let mut buffer = [0; 4096];
+    let Some(list) = script::read_file(&rt, b"list", &mut buffer)? else {
         return Ok(());
     };
-    each_line(&rt, &buffer[..n])
+    script::lines(list).try_for_each(|name| case(&rt, name))
 }

@@ -1,28 +1,35 @@
 -- Metrics, their scopes, and the scopes' summaries: arrays in arrays, all in the Metrics section.
-use Rattle.std.specs.Prelude.{ℕ, ◌+◌, List, [], ◌∷◌, get_or}
+use Rattle.text.specs.declared.Text.{Text}
+use Rattle.metric.specs.declared.Nested.{Nested}
+use Rattle.metric.specs.declared.Metric.{Metric}
+use Rattle.metric.specs.declared.Scope.{Scope}
+use Rattle.metric.specs.declared.Summary.{Summary}
+use Rattle.std.specs.Prelude.{ℕ, ◌+◌, List, [], ◌∷◌, get_or, Err, Ok}
 use Rattle.le.specs.Number.{number}
-use Rattle.refusal.specs.declared.Refusal.{Refusal}
 use Rattle.refusal.specs.declared.Refusal.TheVariants as No
-use Rattle.refusal.specs.Check.{either}
+use Rattle.refusal.specs.Check.{either, Answer, on_answer}
 use Rattle.refusal.specs.Words.{refused_words}
 use Rattle.open.specs.Format.{meta, metrics_section, stride_at}
 use Rattle.open.specs.Names as Section
 use Rattle.open.specs.Opening.{field, array_rule, pair_in, place_in, on_opened}
-use Rattle.text.specs.declared.Text.{Text}
-use Rattle.text.specs.declared.Text.TheVariants as text
-use Rattle.text.specs.String.{on_text}
+use Rattle.text.specs.String.{given_text}
 use Rattle.array.specs.declared.Array.{Array}
-use Rattle.array.specs.Element.{element_at, on_element, Bounded}
+use Rattle.array.specs.Element.{element_at, Bounded}
 use Rattle.array.specs.Stored.{array_in}
 use Rattle.meta.specs.Names.{string_of}
-use Rattle.metric.specs.declared.Nested.{Nested}
-use Rattle.metric.specs.declared.Nested.TheVariants as nested
-use Rattle.metric.specs.declared.Metric.{Metric}
-use Rattle.metric.specs.declared.Metric.TheVariants as metric
-use Rattle.metric.specs.declared.Scope.{Scope}
-use Rattle.metric.specs.declared.Scope.TheVariants as scope
-use Rattle.metric.specs.declared.Summary.{Summary}
-use Rattle.metric.specs.declared.Summary.TheVariants as summary
+
+-- answers with these fields
+abbrev pub given_nested : (at : ℕ) (inner : Array) → Answer Nested
+given_nested at inner = Ok (record { at = at; inner = inner })
+
+abbrev pub given_metric : (name length scopes : ℕ) → Answer Metric
+given_metric name n scopes = Ok (record { name = record { place = name; length = n }; scopes = scopes })
+
+abbrev pub given_scope : (name length summaries prop_metric_id : ℕ) → Answer Scope
+given_scope name n summaries prop = Ok (record { name = record { place = name; length = n }; summaries = summaries; prop_metric_id = prop })
+
+abbrev pub given_summary : (formula length combine stat_metric_id : ℕ) → Answer Summary
+given_summary formula n combine stat = Ok (record { formula = record { place = formula; length = n }; combine = combine; stat_metric_id = stat })
 
 -- ---- one level: a metric leads to its scopes as a scope to its summaries
 
@@ -30,19 +37,15 @@ use Rattle.metric.specs.declared.Summary.TheVariants as summary
 abbrev pub inner_array : List ℕ → (at stride : ℕ) → Array
 inner_array file at stride = record { place = number 8 file (at + 16); count = number 2 file (at + 8); stride = stride }
 
-unfoldable pub nested_of : List ℕ → (section : List ℕ) (at stride : ℕ) → Nested
+unfoldable pub nested_of : List ℕ → (section : List ℕ) (at stride : ℕ) → Answer Nested
 nested_of file section at stride =
     either
     (array_rule (get_or section 0 0) metrics_section.end (get_or section 1 0) (number 8 file (at + 16)) (number 2 file (at + 8)) stride)
-    (nested.Of at (inner_array file at stride)) (nested.Refused No.Array)
+    (given_nested at (inner_array file at stride)) (Err No.Array)
 
 -- element i of an array, with its inner array: 15, then 7
-unfoldable pub nested_at : List ℕ → (section : List ℕ) → Array → (i stride : ℕ) → Nested
-nested_at file section outer i stride = on_element nested.Refused (element_at outer i) (λ p. nested_of file section p stride)
-
-unfoldable pub on_nested : {A : Type 0} → (Refusal → A) → Nested → (ℕ → Array → A) → A
-on_nested refused (nested.Of at inner) answer = answer at inner
-on_nested refused (nested.Refused r) answer = refused r
+unfoldable pub nested_at : List ℕ → (section : List ℕ) → Array → (i stride : ℕ) → Answer Nested
+nested_at file section outer i stride = on_answer Err (element_at outer i) (λ p. nested_of file section p stride)
 
 -- ---- the three levels. The strides of scopes and summaries are the second and third of the section's header
 
@@ -52,79 +55,79 @@ scope_stride file ps = field file (place_in ps Section.metrics) (stride_at metri
 abbrev pub summary_stride : List ℕ → List (List ℕ) → ℕ
 summary_stride file ps = field file (place_in ps Section.metrics) (stride_at metrics_section 2)
 
-abbrev pub metric_nested : List ℕ → List (List ℕ) → (m : ℕ) → Nested
+abbrev pub metric_nested : List ℕ → List (List ℕ) → (m : ℕ) → Answer Nested
 metric_nested file ps m = nested_at file (pair_in ps Section.metrics) (array_in meta file ps Section.metrics) m (scope_stride file ps)
 
-abbrev pub scope_nested : List ℕ → List (List ℕ) → (m s : ℕ) → Nested
+abbrev pub scope_nested : List ℕ → List (List ℕ) → (m s : ℕ) → Answer Nested
 scope_nested file ps m s =
-    on_nested nested.Refused (metric_nested file ps m)
-    (λ at scopes. nested_at file (pair_in ps Section.metrics) scopes s (summary_stride file ps))
+    on_answer Err (metric_nested file ps m)
+    (λ n. nested_at file (pair_in ps Section.metrics) n.inner s (summary_stride file ps))
 
 -- what is answered of each: its own array before its own string
-unfoldable pub metric_found : List ℕ → (section : List ℕ) (at scopes : ℕ) → Metric
+unfoldable pub metric_found : List ℕ → (section : List ℕ) (at scopes : ℕ) → Answer Metric
 metric_found file section at scopes =
-    on_text metric.Refused (string_of file section at 0) (λ place n. metric.Found place n scopes)
+    on_answer Err (string_of file section at 0) (λ t. given_metric t.place t.length scopes)
 
-unfoldable pub scope_found : List ℕ → (section : List ℕ) (at summaries : ℕ) → Scope
+unfoldable pub scope_found : List ℕ → (section : List ℕ) (at summaries : ℕ) → Answer Scope
 scope_found file section at summaries =
-    on_text scope.Refused (string_of file section at 0)
-    (λ place n. scope.Found place n summaries (number 2 file (at + 10)))
+    on_answer Err (string_of file section at 0)
+    (λ t. given_scope t.place t.length summaries (number 2 file (at + 10)))
 
-unfoldable pub summary_found : List ℕ → (section : List ℕ) (at : ℕ) → Summary
+unfoldable pub summary_found : List ℕ → (section : List ℕ) (at : ℕ) → Answer Summary
 summary_found file section at =
-    on_text summary.Refused (string_of file section at 0)
-    (λ place n. summary.Found place n (number 1 file (at + 8)) (number 2 file (at + 10)))
+    on_answer Err (string_of file section at 0)
+    (λ t. given_summary t.place t.length (number 1 file (at + 8)) (number 2 file (at + 10)))
 
-unfoldable pub metric_of : List ℕ → (section : List ℕ) → Nested → Metric
-metric_of file section n = on_nested metric.Refused n (λ at scopes. metric_found file section at scopes.count)
+unfoldable pub metric_of : List ℕ → (section : List ℕ) → Answer Nested → Answer Metric
+metric_of file section n = on_answer Err n (λ n. metric_found file section n.at n.inner.count)
 
-unfoldable pub scope_of : List ℕ → (section : List ℕ) → Nested → Scope
-scope_of file section n = on_nested scope.Refused n (λ at summaries. scope_found file section at summaries.count)
+unfoldable pub scope_of : List ℕ → (section : List ℕ) → Answer Nested → Answer Scope
+scope_of file section n = on_answer Err n (λ n. scope_found file section n.at n.inner.count)
 
-unfoldable pub summary_in : List ℕ → (section : List ℕ) → Array → (k : ℕ) → Summary
-summary_in file section summaries k = on_element summary.Refused (element_at summaries k) (λ p. summary_found file section p)
+unfoldable pub summary_in : List ℕ → (section : List ℕ) → Array → (k : ℕ) → Answer Summary
+summary_in file section summaries k = on_answer Err (element_at summaries k) (λ p. summary_found file section p)
 
-unfoldable pub summary_of : List ℕ → (section : List ℕ) → Nested → (k : ℕ) → Summary
-summary_of file section n k = on_nested summary.Refused n (λ at summaries. summary_in file section summaries k)
+unfoldable pub summary_of : List ℕ → (section : List ℕ) → Answer Nested → (k : ℕ) → Answer Summary
+summary_of file section n k = on_answer Err n (λ n. summary_in file section n.inner k)
 
 -- ---- in a file
 
-unfoldable pub metric_at : List ℕ → (m : ℕ) → Metric
-metric_at file m = on_opened metric.Refused meta file (λ ps. metric_of file (pair_in ps Section.metrics) (metric_nested file ps m))
+unfoldable pub metric_at : List ℕ → (m : ℕ) → Answer Metric
+metric_at file m = on_opened Err meta file (λ ps. metric_of file (pair_in ps Section.metrics) (metric_nested file ps m))
 
-unfoldable pub scope_at : List ℕ → (m s : ℕ) → Scope
-scope_at file m s = on_opened scope.Refused meta file (λ ps. scope_of file (pair_in ps Section.metrics) (scope_nested file ps m s))
+unfoldable pub scope_at : List ℕ → (m s : ℕ) → Answer Scope
+scope_at file m s = on_opened Err meta file (λ ps. scope_of file (pair_in ps Section.metrics) (scope_nested file ps m s))
 
-unfoldable pub summary_at : List ℕ → (m s k : ℕ) → Summary
-summary_at file m s k = on_opened summary.Refused meta file (λ ps. summary_of file (pair_in ps Section.metrics) (scope_nested file ps m s) k)
+unfoldable pub summary_at : List ℕ → (m s k : ℕ) → Answer Summary
+summary_at file m s k = on_opened Err meta file (λ ps. summary_of file (pair_in ps Section.metrics) (scope_nested file ps m s) k)
 
 -- each answer in words: its number, then its values
-unfoldable pub metric_words : Metric → List ℕ
-metric_words (metric.Found name n scopes) = 0 ∷ name ∷ n ∷ scopes ∷ []
-metric_words (metric.Refused r) = refused_words r
+abbrev pub metric_words : Answer Metric → List ℕ
+metric_words (Ok it) = 0 ∷ it.name.place ∷ it.name.length ∷ it.scopes ∷ []
+metric_words (Err r) = refused_words r
 
-unfoldable pub scope_words : Scope → List ℕ
-scope_words (scope.Found name n summaries prop) = 0 ∷ name ∷ n ∷ summaries ∷ prop ∷ []
-scope_words (scope.Refused r) = refused_words r
+abbrev pub scope_words : Answer Scope → List ℕ
+scope_words (Ok it) = 0 ∷ it.name.place ∷ it.name.length ∷ it.summaries ∷ it.prop_metric_id ∷ []
+scope_words (Err r) = refused_words r
 
-unfoldable pub summary_words : Summary → List ℕ
-summary_words (summary.Found formula n combine stat) = 0 ∷ formula ∷ n ∷ combine ∷ stat ∷ []
-summary_words (summary.Refused r) = refused_words r
+abbrev pub summary_words : Answer Summary → List ℕ
+summary_words (Ok it) = 0 ∷ it.formula.place ∷ it.formula.length ∷ it.combine ∷ it.stat_metric_id ∷ []
+summary_words (Err r) = refused_words r
 
 -- the string of each answer
-unfoldable pub metric_text : Metric → Text
-metric_text (metric.Found place n scopes) = text.At place n
-metric_text (metric.Refused r) = text.Refused r
+unfoldable pub metric_text : Answer Metric → Answer Text
+metric_text (Ok it) = given_text it.name.place it.name.length
+metric_text (Err r) = Err r
 
-unfoldable pub scope_text : Scope → Text
-scope_text (scope.Found place n summaries prop) = text.At place n
-scope_text (scope.Refused r) = text.Refused r
+unfoldable pub scope_text : Answer Scope → Answer Text
+scope_text (Ok it) = given_text it.name.place it.name.length
+scope_text (Err r) = Err r
 
-unfoldable pub summary_text : Summary → Text
-summary_text (summary.Found place n combine stat) = text.At place n
-summary_text (summary.Refused r) = text.Refused r
+unfoldable pub summary_text : Answer Summary → Answer Text
+summary_text (Ok it) = given_text it.formula.place it.formula.length
+summary_text (Err r) = Err r
 
 -- the inner array of an answer has places that are u64
-abbrev pub BoundedIn : Nested → Type 0
-BoundedIn (nested.Of at inner) = Bounded inner
-BoundedIn (nested.Refused r) = Unit
+abbrev pub BoundedIn : Answer Nested → Type 0
+BoundedIn (Ok it) = Bounded it.inner
+BoundedIn (Err r) = Unit

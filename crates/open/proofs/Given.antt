@@ -1,4 +1,5 @@
 -- Which refusal opening gives: one way by the rule that is broken, the other way by the refusal.
+use Rattle.std.specs.Prelude.{Err}
 use Prim.Native.Nat.{ℕ, ◌≤◌}
 use mathlib.Core.List.{List}
 use mathlib.Core.Logic.{◌↔◌, ◌⊎◌, inl, inr}
@@ -6,7 +7,6 @@ use mathlib.Core.Path.{◌≡◌, refl, subst}
 use native.Mathlib.Omega.{arith}
 use Rattle.refusal.specs.declared.Refusal.{Refusal}
 use Rattle.refusal.specs.declared.Refusal.TheVariants as No
-use Rattle.refusal.specs.declared.Check.TheVariants.{Refused}
 use Rattle.refusal.specs.Number.{number_of}
 use Rattle.refusal.proofs.Checks.{if_passed_answers}
 use Rattle.open.specs.Format.{Format, trace}
@@ -57,11 +57,11 @@ module _ (f : Format) (file : List ℕ) where
   from No.Total h = absurd h
 
 -- opening refuses by r exactly if the rule of r is the first that is broken
-pub refused_iff : (f : Format) (file : List ℕ) (r : Refusal) → (opening f file ≡ Refused r) ↔ Given f file r
+pub refused_iff : (f : Format) (file : List ℕ) (r : Refusal) → (opening f file ≡ Err r) ↔ Given f file r
 refused_iff f file r = let i = (opening_decides f file).refuses r in (λ e. to f file (i.0 e), λ h. i.1 (from f file r h).1)
 
 -- it has no refusals but 1 to 7
-pub one_to_seven : (f : Format) (file : List ℕ) (r : Refusal) → opening f file ≡ Refused r → number_of r ≤ 7
+pub one_to_seven : (f : Format) (file : List ℕ) (r : Refusal) → opening f file ≡ Err r → number_of r ≤ 7
 one_to_seven f file r e = (from f file r ((refused_iff f file r).0 e)).0
 
 -- an answer that opening does not give is given of a file that opens
@@ -75,5 +75,5 @@ on_opened_answers refused f file answer y other =
     (λ e. (o.0 (i.0 e).0, (i.0 e).1), λ h. i.1 (o.1 h.0, h.1))
 
 -- trace.db is never refused for its footer: an empty one always stands
-pub trace_footer : (file : List ℕ) → opening trace file ≡ Refused No.Footer → ⊥
+pub trace_footer : (file : List ℕ) → opening trace file ≡ Err No.Footer → ⊥
 trace_footer file e = ((refused_iff trace file No.Footer).0 e).3 (record { same = refl })

@@ -1,5 +1,6 @@
 -- A file opens exactly if it keeps the rules, and is refused by the first that it breaks: each test is turned into its fact and back,
 -- then the checks are put together, those of the sections by position.
+use Rattle.refusal.specs.Check.{Check, Passed}
 use Prim.Native.Nat.{ℕ, zero, suc, ◌+◌, ◌-◌, ◌*◌, ◌%◌, ◌≤◌, ◌<◌}
 use mathlib.Core.Bool.{Bool, true, false, ◌&&◌, ◌||◌, not}
 use mathlib.Core.List.{List, [], ◌∷◌}
@@ -15,8 +16,6 @@ use Rattle.range.specs.Range.{within, multiple}
 use Rattle.range.proofs.Tests.{both, unless, within_iff, multiple_iff}
 use Rattle.refusal.specs.declared.Refusal.{Refusal}
 use Rattle.refusal.specs.declared.Refusal.TheVariants as No
-use Rattle.refusal.specs.declared.Check.{Check}
-use Rattle.refusal.specs.declared.Check.TheVariants.{Passed}
 use Rattle.refusal.proofs.Checks.{not_both, Decides, restated, rule_decides, first_decides}
 use Rattle.layout.specs.Stands.{stands}
 use Rattle.layout.proofs.Prefix.{stands_iff}

@@ -1,4 +1,5 @@
 -- The rules by stages: what one stage has shown is what the next may read.
+use Rattle.std.specs.Prelude.{Err}
 use Prim.Native.Nat.{ℕ, ◌+◌, ◌-◌, ◌≤◌, ◌<◌}
 use mathlib.Core.Bool.{Bool, true, false, ◌&&◌}
 use mathlib.Core.List.{List, [], ◌∷◌}
@@ -10,9 +11,7 @@ use lib.ListN.{length, get_or}
 use Rattle.le.specs.Number.{number}
 use Rattle.refusal.specs.declared.Refusal.{Refusal}
 use Rattle.refusal.specs.declared.Refusal.TheVariants as No
-use Rattle.refusal.specs.declared.Check.{Check}
-use Rattle.refusal.specs.declared.Check.TheVariants.{Passed, Refused}
-use Rattle.refusal.specs.Check.{rule, first}
+use Rattle.refusal.specs.Check.{rule, first, Check, Passed}
 use Rattle.refusal.proofs.Checks.{rule_passes, first_passes, first_passed, after_passed, after_refused, rule_and}
 use Rattle.layout.specs.Stands.{starts, stands}
 use Rattle.open.specs.Format.{Section, strings_section, infos_section, profile}
@@ -26,10 +25,9 @@ unfolding stands starts rule
 no_footer file at = refl
 
 regroup : (a b c d : Check) → first a (first b (first c d)) ≡ first (first a (first b (first c Passed))) d
-unfolding first
-regroup (Refused r) b c d = refl
-regroup Passed (Refused r) c d = refl
-regroup Passed Passed (Refused r) d = refl
+regroup (Err r) b c d = refl
+regroup Passed (Err r) c d = refl
+regroup Passed Passed (Err r) d = refl
 regroup Passed Passed Passed d = refl
 
 module _ (magic : List ℕ) (header : ℕ) (file : List ℕ) where
@@ -38,13 +36,13 @@ module _ (magic : List ℕ) (header : ℕ) (file : List ℕ) where
   front_split footer = rw (no_footer file (length file - 8))
       (regroup (rule (leb (header + 8) (length file)) No.Short) (rule (stands file 0 magic) No.Magic) (rule (eqb (number 1 file 14) 4) No.Version) (rule (stands file (length file - 8) footer) No.Footer))
 
-  pub too_short : length file < header + 8 → Refused No.Short ≡ front_rules magic [] header file
-  unfolding front_rules rule first
+  pub too_short : length file < header + 8 → Err No.Short ≡ front_rules magic [] header file
+  unfolding front_rules rule
   too_short h = rw (lt-leb (header + 8) (length file) h)
 
   pub long_enough : header + 8 ≤ length file → {x : Check} → x ≡ first (rule (stands file 0 magic) No.Magic) (rule (eqb (number 1 file 14) 4) No.Version)
       → x ≡ front_rules magic [] header file
-  unfolding front_rules rule first
+  unfolding front_rules rule
   long_enough h e = rw (le-leb (header + 8) (length file) h, no_footer file (length file - 8), first_passed) e
 
   pub shown_long : front_rules magic [] header file ≡ Passed → header + 8 ≤ length file
@@ -55,7 +53,7 @@ module _ (magic : List ℕ) (header : ℕ) (file : List ℕ) where
     pub front_passed : front_rules magic [] header file ≡ Passed → {x : Check} → x ≡ rule (stands file (length file - 8) footer) No.Footer → x ≡ front_rules magic footer header file
     front_passed e h = after_passed e h ∙ sym (front_split footer)
 
-    pub front_refused : {r : Refusal} → front_rules magic [] header file ≡ Refused r → Refused r ≡ front_rules magic footer header file
+    pub front_refused : {r : Refusal} → front_rules magic [] header file ≡ Err r → Err r ≡ front_rules magic footer header file
     front_refused e = after_refused _ e ∙ sym (front_split footer)
 
 -- ---- a section that keeps 5 has its header in the file
@@ -94,6 +92,6 @@ module _ {t : Bool} {a : Check} (e : rule t No.Section ≡ a) where
   pub kept : t ≡ true → a ≡ Passed
   kept h = sym e ∙ (rule_passes t No.Section).1 h
 
-  pub broken : (b : Check) → t ≡ false → Refused No.Section ≡ first a b
+  pub broken : (b : Check) → t ≡ false → Err No.Section ≡ first a b
   unfolding rule
   broken b h = after_refused b (sym e ∙ rw h)

@@ -1,7 +1,7 @@
 -- The opening rules as facts. A file opens exactly if they hold (proofs/Keeps.antt).
 use Rattle.std.specs.Prelude.{ℕ, ◌+◌, ◌-◌, ◌*◌, ◌%◌, ◌≤◌, ◌<◌, List, [], ◌∷◌, ◌≡◌, length}
 use Rattle.le.specs.Number.{number}
-use Rattle.refusal.specs.declared.Check.TheVariants.{Passed}
+use Rattle.refusal.specs.Check.{Passed}
 use Rattle.layout.specs.Stands.{Stands}
 use Rattle.open.specs.Format.{u64, Stride, Content, nothing, array, roots, Section, Format, section_at}
 use Rattle.open.specs.Opening.{field, number_at, pairs, place_in, size_in, opening}

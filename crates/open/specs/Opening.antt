@@ -1,12 +1,10 @@
 -- Opening: document 01's rules over a format, in its order of refusals, on exact numbers.
-use Rattle.std.specs.Prelude.{ℕ, zero, suc, ◌+◌, ◌-◌, ◌*◌, Bool, true, ◌&&◌, ◌||◌, not, List, [], ◌∷◌, leb, eqb, length, get_or}
+use Rattle.std.specs.Prelude.{ℕ, zero, suc, ◌+◌, ◌-◌, ◌*◌, Bool, true, ◌&&◌, ◌||◌, not, List, [], ◌∷◌, leb, eqb, length, get_or, Ok, Err}
 use Rattle.le.specs.Number.{number}
 use Rattle.range.specs.Range.{within, multiple}
 use Rattle.refusal.specs.declared.Refusal.{Refusal}
 use Rattle.refusal.specs.declared.Refusal.TheVariants as No
-use Rattle.refusal.specs.declared.Check.{Check}
-use Rattle.refusal.specs.declared.Check.TheVariants.{Passed}
-use Rattle.refusal.specs.Check.{either, rule, first, if_passed}
+use Rattle.refusal.specs.Check.{Answer, Check, Passed, either, rule, first, if_passed}
 use Rattle.layout.specs.Stands.{stands}
 use Rattle.open.specs.Format.{Field, u64, Stride, Number, fixed, held, Content, nothing, array, roots, Section, Format}
 
@@ -130,6 +128,6 @@ pairs_read f file = either (leb f.header (length file)) (pairs f file) (blank (p
 unfoldable pub on_opened : {A : Type 0} → (Refusal → A) → Format → List ℕ → (List (List ℕ) → A) → A
 on_opened refused f file answer = if_passed refused (opening f file) (answer (pairs f file))
 
--- what opening itself answers with
-unfoldable pub opened : Format → List ℕ → List (List ℕ)
-opened f file = on_opened (λ r. blank (pairs f file)) f file (λ ps. ps)
+-- what opening itself answers: the pairs, or the refusal
+unfoldable pub opened : Format → List ℕ → Answer (List (List ℕ))
+opened f file = on_opened Err f file Ok

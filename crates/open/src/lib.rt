@@ -3,14 +3,13 @@
 #![tactic(auto)]
 
 ghost use Rattle.std.specs.Prelude.{◌≡◌, [], ◌∷◌, ◌+◌, ◌-◌, ◌≤◌, length, get_or};
-ghost use Rattle.refusal.specs.Check.{code_of, rule, first};
+ghost use Rattle.refusal.specs.Check.{Passed, rule, first};
 ghost use Rattle.refusal.specs.declared.Refusal.TheVariants as No;
-ghost use Rattle.refusal.specs.declared.Check.TheVariants.{Passed};
 ghost use Rattle.layout.specs.Stands.{stands};
 ghost use Rattle.open.specs.Format.{meta, profile, cct, trace, infos_section, specs_section, id_names_section, metrics_section, context_section};
-ghost use Rattle.open.specs.Opening.{section_rule, stride_rule, array_rule, contexts_rule, header_rule, front_rules, in_order, section_check, header_check, pair_at, pairs_read, opening_with, opening, opened};
+ghost use Rattle.open.specs.Opening.{section_rule, stride_rule, array_rule, contexts_rule, header_rule, front_rules, in_order, section_check, header_check, pair_at, pairs_read, opening_with, opened};
 
-use refusal::{Check, Refusal};
+use refusal::Refusal;
 
 // Positions of sections in the header: of meta.db,
 pub const GENERAL: usize = 0;
@@ -87,22 +86,22 @@ fn pair_at(file: &[u8], entry: usize) -> [u64; 2]
 }
 
 // 1 to 3.
-fn head(file: &[u8], magic: &[u8; 14], header: u64) -> Check
+fn head(file: &[u8], magic: &[u8; 14], header: u64) -> Result<(), Refusal>
     requires le_header { 7 ≤ header }
     requires header_bound { header ≤ 144 }
     ensures { result ≡ front_rules magic.now [] header file.now }
 {
     if (file.len() as u64) < header + 8 {
-        return Check::Refused(Refusal::Short);
+        return Err(Refusal::Short);
     }
     if !layout::has_fourteen(file, 0, magic) {
-        return Check::Refused(Refusal::Magic);
+        return Err(Refusal::Magic);
     }
     refusal::rule(le::load_u8(file, 14) == 4, Refusal::Version)
 }
 
 // 4.
-fn foot(file: &[u8], footer: &[u8; 8]) -> Check
+fn foot(file: &[u8], footer: &[u8; 8]) -> Result<(), Refusal>
     requires { 8 ≤ length file.now }
     ensures { result ≡ rule (stands file.now (length file.now - 8) footer.now) No.Footer }
 {
@@ -111,16 +110,13 @@ fn foot(file: &[u8], footer: &[u8; 8]) -> Check
 }
 
 // 1 to 4.
-fn front(file: &[u8], magic: &[u8; 14], footer: &[u8; 8], header: u64) -> Check
+fn front(file: &[u8], magic: &[u8; 14], footer: &[u8; 8], header: u64) -> Result<(), Refusal>
     requires le_header { 7 ≤ header }
     requires header_bound { header ≤ 144 }
     ensures { result ≡ front_rules magic.now footer.now header file.now }
 {
-    let head = head(file, magic, header);
-    match head {
-        Check::Passed => foot(file, footer),
-        Check::Refused(r) => Check::Refused(r),
-    }
+    head(file, magic, header)?;
+    foot(file, footer)
 }
 
 // The start of the last eight bytes.
@@ -143,16 +139,16 @@ fn section_rule(file: &[u8], header: u64, end: u64, align: u64, section: [u64; 2
 }
 
 // 6 before 7.
-fn strides_then_array(strides: bool, array: bool) -> Check
+fn strides_then_array(strides: bool, array: bool) -> Result<(), Refusal>
     ensures { result ≡ first (rule strides No.Stride) (rule array No.Array) }
 {
     let stride = refusal::rule(strides, Refusal::Stride);
     let range = refusal::rule(array, Refusal::Array);
-    refusal::first(stride, range)
+    stride.and(range)
 }
 
 // 6 and 7, of a header whose array has a stride of one byte, at 12.
-fn infos_header(file: &[u8], least: u64, section: [u64; 2]) -> Check
+fn infos_header(file: &[u8], least: u64, section: [u64; 2]) -> Result<(), Refusal>
     requires { get_or section 0 0 + 13 ≤ length file.now }
     ensures { result ≡ header_rule file.now (infos_section least) (get_or section 0 0) (get_or section 1 0) }
 {
@@ -162,14 +158,14 @@ fn infos_header(file: &[u8], least: u64, section: [u64; 2]) -> Check
     let count = le::load_u32(file, from + 8) as u64;
     let stride = le::load_u8(file, from + 12) as u64;
     if !stride_rule(least, stride) {
-        return Check::Refused(Refusal::Stride);
+        return Err(Refusal::Stride);
     }
     let array = array_rule(at, 13, section[1], place, count, stride);
     refusal::rule(array, Refusal::Array)
 }
 
 // The same with a stride of two bytes.
-fn specs_header(file: &[u8], least: u64, section: [u64; 2]) -> Check
+fn specs_header(file: &[u8], least: u64, section: [u64; 2]) -> Result<(), Refusal>
     requires { get_or section 0 0 + 14 ≤ length file.now }
     ensures { result ≡ header_rule file.now (specs_section least) (get_or section 0 0) (get_or section 1 0) }
 {
@@ -184,7 +180,7 @@ fn specs_header(file: &[u8], least: u64, section: [u64; 2]) -> Check
 }
 
 // 7, of the names of identifier kinds.
-fn names_header(file: &[u8], section: [u64; 2]) -> Check
+fn names_header(file: &[u8], section: [u64; 2]) -> Result<(), Refusal>
     requires { get_or section 0 0 + 9 ≤ length file.now }
     ensures { result ≡ header_rule file.now id_names_section (get_or section 0 0) (get_or section 1 0) }
 {
@@ -199,7 +195,7 @@ fn names_header(file: &[u8], section: [u64; 2]) -> Check
 }
 
 // 6 and 7, of the metrics.
-fn metrics_header(file: &[u8], section: [u64; 2]) -> Check
+fn metrics_header(file: &[u8], section: [u64; 2]) -> Result<(), Refusal>
     requires { get_or section 0 0 + 15 ≤ length file.now }
     ensures { result ≡ header_rule file.now metrics_section (get_or section 0 0) (get_or section 1 0) }
 {
@@ -216,7 +212,7 @@ fn metrics_header(file: &[u8], section: [u64; 2]) -> Check
 }
 
 // 7, of the roots.
-fn contexts_header(file: &[u8], section: [u64; 2]) -> Check
+fn contexts_header(file: &[u8], section: [u64; 2]) -> Result<(), Refusal>
     requires { get_or section 0 0 + 16 ≤ length file.now }
     ensures { result ≡ header_rule file.now context_section (get_or section 0 0) (get_or section 1 0) }
 {
@@ -286,7 +282,7 @@ fn meta_section_rules(file: &[u8], s: &[[u64; 2]; 8]) -> bool
 }
 
 // 6 and 7, of their headers. General and Strings have none to check.
-fn meta_header_checks(file: &[u8], s: &[[u64; 2]; 8]) -> Check
+fn meta_header_checks(file: &[u8], s: &[[u64; 2]; 8]) -> Result<(), Refusal>
     requires { in_order (section_check 144 file.now s.now) 0 meta.sections ≡ Passed }
     ensures { result ≡ in_order (header_check file.now s.now) 0 meta.sections }
 {
@@ -296,24 +292,21 @@ fn meta_header_checks(file: &[u8], s: &[[u64; 2]; 8]) -> Check
     let modules = specs_header(file, 16, s[MODULES]);
     let files = specs_header(file, 16, s[FILES]);
     let functions = specs_header(file, 40, s[FUNCTIONS]);
-    let last = refusal::first(modules, refusal::first(files, functions));
-    refusal::first(
-        names,
-        refusal::first(metrics, refusal::first(contexts, last)),
-    )
+    let last = modules.and(files.and(functions));
+    names.and(metrics.and(contexts.and(last)))
 }
 
 // 5 to 7, each after those before it.
-fn meta_rules(file: &[u8], s: &[[u64; 2]; 8]) -> Check
+fn meta_rules(file: &[u8], s: &[[u64; 2]; 8]) -> Result<(), Refusal>
     ensures { result ≡ first (in_order (section_check 144 file.now s.now) 0 meta.sections) (in_order (header_check file.now s.now) 0 meta.sections) }
 {
     if meta_section_rules(file, s) {
         return meta_header_checks(file, s);
     }
-    Check::Refused(Refusal::Section)
+    Err(Refusal::Section)
 }
 
-fn profile_rules(file: &[u8], s: [[u64; 2]; 2]) -> Check
+fn profile_rules(file: &[u8], s: [[u64; 2]; 2]) -> Result<(), Refusal>
     ensures { result ≡ first (in_order (section_check 48 file.now s) 0 profile.sections) (in_order (header_check file.now s) 0 profile.sections) }
 {
     let infos = section_rule(file, 48, 13, 8, s[INFOS]);
@@ -321,109 +314,79 @@ fn profile_rules(file: &[u8], s: [[u64; 2]; 2]) -> Check
     if infos & tuples {
         return infos_header(file, 40, s[INFOS]);
     }
-    Check::Refused(Refusal::Section)
+    Err(Refusal::Section)
 }
 
-fn single_rules(file: &[u8], least: u64, s: [[u64; 2]; 1]) -> Check
+fn single_rules(file: &[u8], least: u64, s: [[u64; 2]; 1]) -> Result<(), Refusal>
     ensures { result ≡ first (in_order (section_check 32 file.now s) 0 (infos_section least ∷ [])) (in_order (header_check file.now s) 0 (infos_section least ∷ [])) }
 {
     if section_rule(file, 32, 13, 8, s[INFOS]) {
         return infos_header(file, least, s[INFOS]);
     }
-    Check::Refused(Refusal::Section)
+    Err(Refusal::Section)
 }
 
 // The opening rules of each file, with the places and sizes that its header has.
-pub fn check_meta(file: &[u8], sections: &[[u64; 2]; 8]) -> Check
+pub fn check_meta(file: &[u8], sections: &[[u64; 2]; 8]) -> Result<(), Refusal>
     ensures { result ≡ opening_with meta file.now sections.now }
 {
-    let front = front(file, &META, &META_FOOTER, 144);
-    match front {
-        Check::Passed => meta_rules(file, sections),
-        Check::Refused(r) => Check::Refused(r),
-    }
+    front(file, &META, &META_FOOTER, 144)?;
+    meta_rules(file, sections)
 }
 
-pub fn check_profile(file: &[u8], sections: [[u64; 2]; 2]) -> Check
+pub fn check_profile(file: &[u8], sections: [[u64; 2]; 2]) -> Result<(), Refusal>
     ensures { result ≡ opening_with profile file.now sections }
 {
-    let front = front(file, &PROFILE, &PROFILE_FOOTER, 48);
-    match front {
-        Check::Passed => profile_rules(file, sections),
-        Check::Refused(r) => Check::Refused(r),
-    }
+    front(file, &PROFILE, &PROFILE_FOOTER, 48)?;
+    profile_rules(file, sections)
 }
 
-pub fn check_cct(file: &[u8], sections: [[u64; 2]; 1]) -> Check
+pub fn check_cct(file: &[u8], sections: [[u64; 2]; 1]) -> Result<(), Refusal>
     ensures { result ≡ opening_with cct file.now sections }
 {
-    let front = front(file, &CCT, &CCT_FOOTER, 32);
-    match front {
-        Check::Passed => single_rules(file, 32, sections),
-        Check::Refused(r) => Check::Refused(r),
-    }
+    front(file, &CCT, &CCT_FOOTER, 32)?;
+    single_rules(file, 32, sections)
 }
 
 // No footer is compared.
-pub fn check_trace(file: &[u8], sections: [[u64; 2]; 1]) -> Check
+pub fn check_trace(file: &[u8], sections: [[u64; 2]; 1]) -> Result<(), Refusal>
     ensures { result ≡ opening_with trace file.now sections }
 {
-    let front = head(file, &TRACE, 32);
-    match front {
-        Check::Passed => single_rules(file, 24, sections),
-        Check::Refused(r) => Check::Refused(r),
-    }
+    head(file, &TRACE, 32)?;
+    single_rules(file, 24, sections)
 }
 
-// The entry points: the sections, and 0 in `refusal`; or the refusal's number there, and every word 0.
-pub fn open_meta(file: &[u8], refusal: &mut u64) -> [[u64; 2]; 8]
-    ensures value { result ≡ opened meta file.now }
-    ensures refusal_after { refusal.new ≡ code_of (opening meta file.now) }
+// The entry points: the sections of a file that opens.
+// Inlined, so that the eight pairs are not copied twice on their way to the caller.
+#[inline(always)]
+pub fn open_meta(file: &[u8]) -> Result<[[u64; 2]; 8], Refusal>
+    ensures { result ≡ opened meta file.now }
 {
     let sections = meta_sections(file);
-    let check = check_meta(file, &sections);
-    *refusal = refusal::code(check);
-    match check {
-        Check::Passed => sections,
-        Check::Refused(_) => [[0; 2]; 8],
-    }
+    check_meta(file, &sections)?;
+    Ok(sections)
 }
 
-pub fn open_profile(file: &[u8], refusal: &mut u64) -> [[u64; 2]; 2]
-    ensures value { result ≡ opened profile file.now }
-    ensures refusal_after { refusal.new ≡ code_of (opening profile file.now) }
+pub fn open_profile(file: &[u8]) -> Result<[[u64; 2]; 2], Refusal>
+    ensures { result ≡ opened profile file.now }
 {
     let sections = profile_sections(file);
-    let check = check_profile(file, sections);
-    *refusal = refusal::code(check);
-    match check {
-        Check::Passed => sections,
-        Check::Refused(_) => [[0; 2]; 2],
-    }
+    check_profile(file, sections)?;
+    Ok(sections)
 }
 
-pub fn open_cct(file: &[u8], refusal: &mut u64) -> [[u64; 2]; 1]
-    ensures value { result ≡ opened cct file.now }
-    ensures refusal_after { refusal.new ≡ code_of (opening cct file.now) }
+pub fn open_cct(file: &[u8]) -> Result<[[u64; 2]; 1], Refusal>
+    ensures { result ≡ opened cct file.now }
 {
     let sections = single_section(file);
-    let check = check_cct(file, sections);
-    *refusal = refusal::code(check);
-    match check {
-        Check::Passed => sections,
-        Check::Refused(_) => [[0; 2]; 1],
-    }
+    check_cct(file, sections)?;
+    Ok(sections)
 }
 
-pub fn open_trace(file: &[u8], refusal: &mut u64) -> [[u64; 2]; 1]
-    ensures value { result ≡ opened trace file.now }
-    ensures refusal_after { refusal.new ≡ code_of (opening trace file.now) }
+pub fn open_trace(file: &[u8]) -> Result<[[u64; 2]; 1], Refusal>
+    ensures { result ≡ opened trace file.now }
 {
     let sections = single_section(file);
-    let check = check_trace(file, sections);
-    *refusal = refusal::code(check);
-    match check {
-        Check::Passed => sections,
-        Check::Refused(_) => [[0; 2]; 1],
-    }
+    check_trace(file, sections)?;
+    Ok(sections)
 }

@@ -1,5 +1,7 @@
 -- Lookups in the file of a writable survey find exactly its entries: by demand 2 they say what the asked block holds, and the block of
 -- profile p is the written block of its pairs, which are the entries that name p.
+use Rattle.std.specs.Prelude.{Err}
+use Rattle.refusal.specs.Check.{Found, Absent, on_answer}
 use Prim.Native.Nat.{ℕ, zero, suc, ◌+◌, ◌-◌, ◌*◌, ◌^◌, ◌≤◌, ◌<◌}
 use mathlib.Core.List.{List, []}
 use mathlib.Core.Logic.{◌↔◌, ◌⊎◌, inl, inr}
@@ -12,12 +14,10 @@ use Rattle.outside.specs.Facts.{Disjoint}
 use Rattle.refusal.specs.declared.Refusal.TheVariants as No
 use Rattle.open.specs.Format as Format
 use Rattle.open.proofs.Pointers.{place_below}
-use Rattle.array.specs.Element.{on_element}
 use Rattle.block.specs.declared.Block.{Block}
-use Rattle.block.specs.declared.Lookup.TheVariants.{Found, Absent, Refused}
 use Rattle.block.specs.Block.{profile_shape, block_at}
 use Rattle.block.specs.Facts.{Holds}
-use Rattle.lookup.specs.Lookup.{checked_at, profile_block, on_checked, profile_lookup}
+use Rattle.lookup.specs.Lookup.{checked_at, profile_block, profile_lookup}
 use Rattle.lookup.specs.Demand2.{There}
 use Rattle.lookup.proofs.Demand2.{demand2}
 use Rattle.block_file.specs.Pairs.{written, indices_from, block_of}
@@ -168,6 +168,6 @@ module _ (s : Survey) (a : Writable s) where
         )
 
   -- 15 for a profile that is not listed
-  pub lookup_unlisted : (p context metric : ℕ) → s.profiles ≤ p → profile_lookup file p context metric ≡ Refused No.Index
-  unfolding profile_lookup on_checked profile_block checked_at on_element
+  pub lookup_unlisted : (p context metric : ℕ) → s.profiles ≤ p → profile_lookup file p context metric ≡ Err No.Index
+  unfolding profile_lookup on_answer profile_block checked_at
   lookup_unlisted p context metric l = rw (opened_with s a, no_element s a p l)

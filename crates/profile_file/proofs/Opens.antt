@@ -1,5 +1,6 @@
 -- The file of a writable survey opens: what stands in its headers is read back, and each opening rule follows as a fact.
 -- Every reader that opens it is then handed the sections as they were written, and the array of its profiles.
+use Rattle.std.specs.Prelude.{Err, Ok}
 use Prim.Native.Nat.{ℕ, zero, suc, ◌+◌, ◌*◌, ◌^◌, ◌≤◌, ◌<◌}
 use mathlib.Core.List.{List}
 use mathlib.Core.Path.{◌≡◌, refl, sym, ap, ◌∙◌}
@@ -8,8 +9,7 @@ use Rattle.le.specs.Number.{number}
 use Rattle.layout.proofs.Laws.{field-at}
 use Rattle.refusal.specs.declared.Refusal.{Refusal}
 use Rattle.refusal.specs.declared.Refusal.TheVariants as No
-use Rattle.refusal.specs.declared.Check.TheVariants.{Passed}
-use Rattle.refusal.specs.Check.{if_passed}
+use Rattle.refusal.specs.Check.{Passed, on_answer}
 use Rattle.open.specs.Format as Format
 use Rattle.open.specs.Names as Section
 use Rattle.open.specs.Opening.{place_for, pair_at, pairs_from, pairs, place_in, size_in, field, number_at, opening, on_opened}
@@ -17,11 +17,9 @@ use Rattle.open.specs.Kept.{AllKept, Opens}
 use Rattle.open.proofs.Pointers.{place_some, place_below, place_again}
 use Rattle.open.proofs.Keeps.{opens_iff}
 use Rattle.array.specs.declared.Array.{Array}
-use Rattle.array.specs.declared.Element.TheVariants as Element
 use Rattle.array.specs.Element.{element_at}
 use Rattle.array.specs.Stored.{array_of, array_in}
 use Rattle.array.proofs.Bounds.{is_there, not_there}
-use Rattle.count.specs.declared.Count.TheVariants as Count
 use Rattle.count.specs.Count.{count_of}
 use Rattle.profile_file.specs.Survey.{Survey}
 use Rattle.profile_file.specs.File.{tuples_from, tuples_size, file_header, infos_header, profile_file, section_pairs}
@@ -136,7 +134,7 @@ module _ (s : Survey) (a : Writable s) where
 
   pub opened_with : {A : Type 0} (refused : Refusal → A) (answer : List (List ℕ) → A)
       → on_opened refused Format.profile file answer ≡ answer (section_pairs s)
-  unfolding on_opened if_passed
+  unfolding on_opened on_answer
   opened_with refused answer = rw (opening_passes, sections_are)
 
   abbrev pub profiles_array : Array
@@ -149,12 +147,12 @@ module _ (s : Survey) (a : Writable s) where
   pub element-place : (p : ℕ) → p < s.profiles → profiles_array.place + p * profiles_array.stride ≡ 64 + p * 40
   element-place p l = rw (place_some s.profiles 64 (omega arith))
 
-  pub element_is : (p : ℕ) → p < s.profiles → element_at (array_in Format.profile file (section_pairs s) Section.infos) p ≡ Element.At (64 + p * 40)
-  element_is p l = ap (λ (x : Array). element_at x p) array_is ∙ sym (is_there profiles_array p l) ∙ ap Element.At (element-place p l)
+  pub element_is : (p : ℕ) → p < s.profiles → element_at (array_in Format.profile file (section_pairs s) Section.infos) p ≡ Ok (64 + p * 40)
+  element_is p l = ap (λ (x : Array). element_at x p) array_is ∙ sym (is_there profiles_array p l) ∙ ap Ok (element-place p l)
 
-  pub no_element : (p : ℕ) → s.profiles ≤ p → element_at (array_in Format.profile file (section_pairs s) Section.infos) p ≡ Element.Refused No.Index
+  pub no_element : (p : ℕ) → s.profiles ≤ p → element_at (array_in Format.profile file (section_pairs s) Section.infos) p ≡ Err No.Index
   no_element p l = ap (λ (x : Array). element_at x p) array_is ∙ sym (not_there profiles_array p l)
 
-  pub count_is : count_of Format.profile file ≡ Count.Of s.profiles
+  pub count_is : count_of Format.profile file ≡ Ok s.profiles
   unfolding count_of
-  count_is = opened_with Count.Refused _ ∙ ap (λ (x : Array). Count.Of x.count) array_is
+  count_is = opened_with Err _ ∙ ap (λ (x : Array). Ok x.count) array_is

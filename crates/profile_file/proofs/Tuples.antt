@@ -1,5 +1,7 @@
 -- Each profile of the file has its tuple as given: as many identifications, and each with its four fields, all 16 bits of the flags.
 -- The profile's structure says where the tuple stands, the tuple keeps its rule there, and identification j is read as it was laid out.
+use Rattle.std.specs.Prelude.{Err, Ok}
+use Rattle.refusal.specs.Check.{on_answer}
 use Prim.Native.Nat.{ℕ, ◌+◌, ◌*◌, ◌≤◌, ◌<◌}
 use mathlib.Core.Bool.{true}
 use mathlib.Core.List.{List, [], ◌∷◌}
@@ -15,12 +17,9 @@ use Rattle.refusal.specs.declared.Refusal.TheVariants as No
 use Rattle.open.specs.Opening.{place_for}
 use Rattle.open.proofs.Pointers.{place_some}
 use Rattle.array.specs.declared.Array.{Array}
-use Rattle.array.specs.Element.{on_element}
 use Rattle.array.proofs.Bounds.{is_there, not_there}
 use Rattle.block.specs.Block.{profile_shape}
-use Rattle.tuple.specs.declared.Tuple.TheVariants as Tuple
-use Rattle.tuple.specs.declared.Identifier.TheVariants.{Refused}
-use Rattle.tuple.specs.Tuple.{identifiers, tuple_rule, tuple_of, tuple_in, tuple_at, identifier_of, on_tuple, identifier_in, identifier_at}
+use Rattle.tuple.specs.Tuple.{identifiers, tuple_rule, tuple_of, tuple_in, tuple_at, identifier_of, identifier_in, identifier_at}
 use Rattle.tuple.proofs.Facts.{tuple_iff}
 use Rattle.tuple.proofs.Fits.{rule_kept}
 use Rattle.block_file.proofs.Readback.{length_header}
@@ -59,7 +58,7 @@ module _ (s : Survey) (a : Writable s) where
         ((tuple_iff file (tuples_from s) (tuples_size s) (tuple_from s t)).1
         (record { aligned = tuple_eight s t; starts = tuple_after s t; fits = rw size_read e }))
 
-    tuple_read : tuple_of file (place_for (tuples_size s) (tuples_from s)) (tuples_size s) (tuple_from s t) ≡ Tuple.Of (identifications_of t)
+    tuple_read : tuple_of file (place_for (tuples_size s) (tuples_from s)) (tuples_size s) (tuple_from s t) ≡ Ok (identifications_of t)
     unfolding identifiers
     tuple_read = sym (rule_kept file (place_for (tuples_size s) (tuples_from s)) (tuples_size s) (tuple_from s t) keeps_rule) ∙ rw size_read
 
@@ -91,27 +90,27 @@ module _ (s : Survey) (a : Writable s) where
       ap (number 8 file) (sym (add-zero (64 + p * 40 + 32)))
       ∙ field-at _ 0 h (omega arith) (omega (arith, tuple_ends s t (a.listed.tuple_listed p l), tuples_fit s a))
 
-  tuple_is : (p : ℕ) → p < s.profiles → tuple_at file p ≡ Tuple.Of (identifications_of (s.named p))
-  unfolding tuple_at tuple_in on_element section_pairs
+  tuple_is : (p : ℕ) → p < s.profiles → tuple_at file p ≡ Ok (identifications_of (s.named p))
+  unfolding tuple_at tuple_in on_answer section_pairs
   tuple_is p l = rw (opened_with s a, element_is s a p l, pointer_read p l) (tuple_read (s.named p) (a.listed.tuple_listed p l))
 
-  pub tuple_given : (p : ℕ) → p < s.profiles → (t : Array) × ((tuple_at file p ≡ Tuple.Of t) × (t.count ≡ ts.size (s.named p)))
+  pub tuple_given : (p : ℕ) → p < s.profiles → (t : Array) × ((tuple_at file p ≡ Ok t) × (t.count ≡ ts.size (s.named p)))
   tuple_given p l = (identifications_of (s.named p), (tuple_is p l, refl))
 
-  pub tuple_unlisted : (p : ℕ) → s.profiles ≤ p → tuple_at file p ≡ Tuple.Refused No.Index
-  unfolding tuple_at tuple_in on_element
+  pub tuple_unlisted : (p : ℕ) → s.profiles ≤ p → tuple_at file p ≡ Err No.Index
+  unfolding tuple_at tuple_in on_answer
   tuple_unlisted p l = rw (opened_with s a, no_element s a p l)
 
   pub identifier_is : (p j : ℕ) → p < s.profiles → j < ts.size (s.named p) → identifier_at file p j ≡ identification_of ts (s.named p) j
-  unfolding identifier_at identifier_in on_tuple on_element
+  unfolding identifier_at identifier_in on_answer
   identifier_is p j l q =
       rw (tuple_is p l, ← is_there (identifications_of (s.named p)) j q) (identification_read (s.named p) (a.listed.tuple_listed p l) j q)
 
   -- 15 past the tuple's last, and for a profile that is not listed
-  pub no_more_identifiers : (p j : ℕ) → p < s.profiles → ts.size (s.named p) ≤ j → identifier_at file p j ≡ Refused No.Index
-  unfolding identifier_at identifier_in on_tuple on_element
+  pub no_more_identifiers : (p j : ℕ) → p < s.profiles → ts.size (s.named p) ≤ j → identifier_at file p j ≡ Err No.Index
+  unfolding identifier_at identifier_in on_answer
   no_more_identifiers p j l q = rw (tuple_is p l, ← not_there (identifications_of (s.named p)) j q)
 
-  pub identifier_unlisted : (p j : ℕ) → s.profiles ≤ p → identifier_at file p j ≡ Refused No.Index
-  unfolding identifier_at on_tuple
+  pub identifier_unlisted : (p j : ℕ) → s.profiles ≤ p → identifier_at file p j ≡ Err No.Index
+  unfolding identifier_at on_answer
   identifier_unlisted p j l = rw (tuple_unlisted p l)

@@ -1,8 +1,7 @@
 -- The check before anything is written: 15, 11, 7 and 17 in this order, each over the whole survey before the next.
 use Rattle.std.specs.Prelude.{ℕ, suc, ◌-◌, ◌^◌, Bool, ◌&&◌, ◌||◌, ltb, leb, eqb, length}
 use Rattle.refusal.specs.declared.Refusal.TheVariants as No
-use Rattle.refusal.specs.declared.Check.{Check}
-use Rattle.refusal.specs.Check.{rule, first}
+use Rattle.refusal.specs.Check.{rule, first, Check}
 use Rattle.seq.specs.Sequence.{every}
 use Rattle.block_file.specs.Pairs.{groups_of}
 use Rattle.profile_file.specs.Survey.{Tuples, Entries, Survey, pairs_of}

@@ -6,10 +6,15 @@ use native.Mathlib.Numerals.{add-one}
 use native.Mathlib.Omega.{arith}
 use lib.Dec.{ltb}
 use lib.ListN.{length}
+use Rattle.std.specs.Prelude.{Ok, Err}
 use Rattle.layout.specs.Many.{many}
 use Rattle.layout.proofs.Many.{many_none, length_next}
+use Rattle.refusal.specs.declared.Refusal.{Refusal}
+use Rattle.refusal.specs.declared.Refusal.TheVariants as No
+use Rattle.refusal.specs.Check.{Answer, Passed, rule, first}
+use Rattle.refusal.proofs.Checks.{rule_passes, err_same, not_both}
 use Rattle.seq.specs.Sequence.{every}
-use Rattle.seq.proofs.Every.{every_none, every_next}
+use Rattle.seq.proofs.Every.{every_none, every_next, every_more, every_not}
 use Rattle.block_file.specs.Pairs.{leads, groups, groups_of}
 use Rattle.block_file.proofs.Groups.{group_yes, group_no, groups_none, groups_most}
 use Rattle.profile_file.specs.Survey.{Entries, Ascending, run_start, run_length, pairs_of}
@@ -116,38 +121,70 @@ module _ {e : Entries} {p start k contexts : ℕ} (r : Counting e p start k cont
 abbrev pub is_counted : Entries → (p : ℕ) → Bool
 is_counted e p = ltb (groups_of (pairs_of e p)) (2 ^ 32)
 
--- of the profiles below p: where the next run starts, how many bytes their blocks have, and whether their contexts can be counted
-pub record Measured (e : Entries) (profiles p start bytes : ℕ) (counted : Bool) : Type 0 where
+-- of the profiles below p: where the next run starts, and how many bytes their blocks have; the contexts of each can be counted
+pub record Measured (e : Entries) (profiles p start bytes : ℕ) : Type 0 where
   pub within : p ≤ profiles
   pub start_is : start ≡ run_start e p
   pub bytes_are : bytes ≡ length (many (block_bytes e) p)
-  pub counted_is : counted ≡ contexts_fit e p
+  pub counted : contexts_fit e p ≡ true
 
-pub measured_none : (e : Entries) → Ascending e → (profiles : ℕ) → Measured e profiles 0 0 0 true
+pub measured_none : (e : Entries) → Ascending e → (profiles : ℕ) → Measured e profiles 0 0 0
 unfolding contexts_fit
 measured_none e sorted profiles = record {
   within = omega arith;
   start_is = sym (first_run e sorted);
   bytes_are = rw many_none;
-  counted_is = sym (every_none (is_counted e));
+  counted = every_none (is_counted e);
 }
 
-module _ {e : Entries} {profiles p start bytes end contexts : ℕ} {counted : Bool} (r : Measured e profiles p start bytes counted)
+-- what the blocks of all profiles come to
+abbrev pub measure_of : Entries → (profiles : ℕ) → Answer ℕ
+measure_of e profiles = first (rule (contexts_fit e profiles) No.Array) (Ok (length (many (block_bytes e) profiles)))
+
+-- a rule that refuses does not hold
+rule_refused : (t : Bool) {own r : Refusal} → Err r ≡ rule t own → (t ≡ false) × (r ≡ own)
+unfolding rule
+rule_refused true e = absurd (not_both (sym e))
+rule_refused false e = (refl, err_same e)
+
+module _ {e : Entries} {profiles p start bytes end contexts : ℕ} (r : Measured e profiles p start bytes)
     (sorted : Ascending e) (l : p < profiles) (end_is : end ≡ run_start e (p + 1)) (contexts_are : contexts ≡ groups_of (pairs_of e p)) where
-  pub measured_more : Measured e profiles (p + 1) end (bytes + (end - start) * 10 + 2 * ((end - start) % 2) + contexts * 12)
-      (counted && ltb contexts (2 ^ 32))
-  unfolding contexts_fit
-  measured_more =
-      let grown : end ≡ start + run_length e p = omega (arith, r.start_is, run_next e sorted p) in
+  counted_as : (t : Bool) → ltb contexts (2 ^ 32) ≡ t → is_counted e p ≡ t
+  counted_as t fits = ap (λ (z : ℕ). ltb z (2 ^ 32)) (sym contexts_are) ∙ fits
+
+  -- too many contexts of profile p
+  pub measured_refused : {no : Refusal} → Err no ≡ rule (ltb contexts (2 ^ 32)) No.Array → Err no ≡ measure_of e profiles
+  unfolding contexts_fit rule
+  measured_refused refused =
+      let broken = rule_refused (ltb contexts (2 ^ 32)) refused in
+      rw (broken.1, every_not (is_counted e) profiles p l (counted_as false broken.0))
+
+  grown : end ≡ start + run_length e p
+  grown = omega (arith, r.start_is, end_is, run_next e sorted p)
+
+  bytes_next : bytes + (end - start) * 10 + 2 * ((end - start) % 2) + contexts * 12 ≡ length (many (block_bytes e) (p + 1))
+  bytes_next =
       let next : length (many (block_bytes e) (p + 1)) ≡ length (many (block_bytes e) p) + length (block_bytes e p) =
       rw (add-one p) (length_next (block_bytes e) p) in
-      record {
-        within = omega arith;
-        start_is = end_is;
-        bytes_are = omega (arith, r.bytes_are, length_block e p);
-        counted_is = ap₂ ◌&&◌ r.counted_is (ap (λ (z : ℕ). ltb z (2 ^ 32)) contexts_are) ∙ sym (every_next (is_counted e) p);
-      }
+      omega (arith, r.bytes_are, grown, next, length_block e p, contexts_are)
+
+  pub measured_more : Passed ≡ rule (ltb contexts (2 ^ 32)) No.Array
+      → Measured e profiles (p + 1) end (bytes + (end - start) * 10 + 2 * ((end - start) % 2) + contexts * 12)
+  unfolding contexts_fit
+  measured_more passed = record {
+    within = omega arith;
+    start_is = end_is;
+    bytes_are = bytes_next;
+    counted = every_more (is_counted e) p r.counted (counted_as true ((rule_passes (ltb contexts (2 ^ 32)) No.Array).0 (sym passed)));
+  }
 
   -- what a turn computes is no more than the bytes of all entries
   pub turn_most : (start ≤ end) × (bytes + (end - start) * 10 + 2 * ((end - start) % 2) + contexts * 12 ≤ e.count * 24)
-  turn_most = (omega (arith, r.start_is, run_next e sorted p), omega (arith, measured_more.bytes_are, blocks_most e sorted (p + 1), run_le e sorted (p + 1)))
+  turn_most = (omega (arith, grown), omega (arith, bytes_next, blocks_most e sorted (p + 1), run_le e sorted (p + 1)))
+
+-- once all are passed
+pub measured_all : {e : Entries} {profiles p start bytes : ℕ} → Measured e profiles p start bytes → profiles ≤ p → Ok bytes ≡ measure_of e profiles
+unfolding contexts_fit rule
+measured_all {profiles = profiles} {p = p} r end =
+    let all : p ≡ profiles = omega (arith, r.within) in
+    rw (sym all, r.counted, sym r.bytes_are)

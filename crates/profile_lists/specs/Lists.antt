@@ -1,7 +1,7 @@
 -- The lists as they are lent, as a survey. Ids are as wide as their fields, so that none can be too large.
+use Rattle.refusal.specs.Check.{Check}
 use Rattle.std.specs.Prelude.{ℕ, ◌+◌, ◌*◌, ◌/◌, Bool, List, leb, length, get_or}
 use Rattle.le.specs.Number.{number}
-use Rattle.refusal.specs.declared.Check.{Check}
 use Rattle.seq.specs.Sequence.{sum}
 use Rattle.profile_file.specs.Survey.{Tuples, Entries, Survey}
 use Rattle.profile_file.specs.Check.{write_check}

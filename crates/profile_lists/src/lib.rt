@@ -12,7 +12,7 @@ ghost use Rattle.profile_file.specs.File.{block_bytes};
 ghost use Rattle.profile_file.specs.Check.{entries_listed, before_rule, sorted_rule, contexts_fit, sizes_check};
 ghost use Rattle.profile_lists.specs.Lists.{word_of, entries_in, survey_of, lists_check};
 
-use refusal::{Check, Refusal};
+use refusal::Refusal;
 
 // What entry k says.
 pub fn profile_of(entries: &[u8], k: usize) -> u32
@@ -58,39 +58,28 @@ fn in_order(entries: &[u8], k: usize) -> bool
 }
 
 // 15 and 11 of the entries, in one pass.
-fn check_entries(entries: &[u8], profiles: usize) -> Check
+fn check_entries(entries: &[u8], profiles: usize) -> Result<(), Refusal>
     ensures { result ≡ Rules.first (Rules.rule (entries_listed (entries_in entries.now) profiles) No.Index) (Rules.rule (sorted_rule (entries_in entries.now)) No.Order) }
 {
     let n = entries.len() / 24;
     if n == 0 {
-        return Check::Passed;
+        return Ok(());
     }
-    let mut k: usize = 0;
     let mut listed = (profile_of(entries, 0) as usize) < profiles;
     let mut sorted = true;
-    while k + 1 < n {
+    for k in 0..n - 1 {
         sorted = sorted & in_order(entries, k);
-        k += 1;
-        listed = listed & ((profile_of(entries, k) as usize) < profiles);
+        listed = listed & ((profile_of(entries, k + 1) as usize) < profiles);
     }
-    refusal::first(
-        refusal::rule(listed, Refusal::Index),
-        refusal::rule(sorted, Refusal::Order),
-    )
+    refusal::rule(listed, Refusal::Index)?;
+    refusal::rule(sorted, Refusal::Order)
 }
 
 // Whether the words are all below a limit: the tuples of the profiles, or the sizes of the tuples.
 fn all_below(words: &[u64], limit: u64) -> bool
     ensures { result ≡ every (λ (k : ℕ). ltb (word_of words.now k) limit) (length words.now) }
 {
-    let mut k: usize = 0;
-    while k < words.len() {
-        if words[k] >= limit {
-            return false;
-        }
-        k += 1;
-    }
-    true
+    words.iter().all(|w| *w < limit)
 }
 
 // How many identifications the tuples claim together; one more than `most` where they are more.
@@ -98,14 +87,12 @@ fn claimed(tuples: &[u64], most: u64) -> u64
     requires { most + 1 < 2 ^ 64 }
     ensures { result ≡ min (sum (word_of tuples.now) (length tuples.now)) (most + 1) }
 {
-    let mut t: usize = 0;
-    let mut total: u64 = 0;
-    while t < tuples.len() {
-        if tuples[t] > most - total {
+    let mut total = 0;
+    for size in tuples {
+        if *size > most - total {
             return most + 1;
         }
-        total += tuples[t];
-        t += 1;
+        total += *size;
     }
     total
 }
@@ -135,49 +122,36 @@ fn run_at(entries: &[u8], p: usize, start: usize) -> Run
     ensures contexts { result.contexts ≡ groups_of (pairs_of (entries_in entries.now) p) }
 {
     let n = entries.len() / 24;
-    let mut k: usize = 0;
-    let mut contexts: u64 = 0;
-    while start + k < n && profile_of(entries, start + k) as usize == p {
+    let mut contexts = 0;
+    for k in 0..n - start {
+        if profile_of(entries, start + k) as usize != p {
+            let end = start + k;
+            return Run { end, contexts };
+        }
         if leads_at(entries, start, k) {
             contexts += 1;
         }
-        k += 1;
     }
-    Run {
-        end: start + k,
-        contexts: contexts,
-    }
+    Run { end: n, contexts }
 }
 
-// What the blocks of the profiles come to: whether each one's contexts can be counted, and how many bytes they have.
-#[derive(Clone, Copy)]
-struct Blocks {
-    counted: bool,
-    bytes: u64,
-}
-
-fn measure(entries: &[u8], profiles: usize) -> Blocks
+// How many bytes the blocks of the profiles have, or 7 if one has too many contexts.
+fn measure(entries: &[u8], profiles: usize) -> Result<u64, Refusal>
     requires ascending { Ascending (entries_in entries.now) }
     requires profiles_bound { profiles < 2 ^ 63 }
-    ensures counted { result.counted ≡ contexts_fit (entries_in entries.now) profiles }
-    ensures bytes { result.bytes ≡ length (many (block_bytes (entries_in entries.now)) profiles) }
+    ensures { result ≡ Rules.first (Rules.rule (contexts_fit (entries_in entries.now) profiles) No.Array)
+        (Ok (length (many (block_bytes (entries_in entries.now)) profiles))) }
 {
-    let mut p: usize = 0;
-    let mut start: usize = 0;
-    let mut bytes: u64 = 0;
-    let mut counted = true;
-    while p < profiles {
+    let mut start = 0;
+    let mut bytes = 0;
+    for p in 0..profiles {
         let run = run_at(entries, p, start);
+        refusal::rule(run.contexts < 0x1_0000_0000, Refusal::Array)?;
         let held = (run.end - start) as u64;
-        counted = counted & (run.contexts < 0x1_0000_0000);
         bytes = bytes + held * 10 + 2 * (held % 2) + run.contexts * 12;
         start = run.end;
-        p += 1;
     }
-    Blocks {
-        counted: counted,
-        bytes: bytes,
-    }
+    Ok(bytes)
 }
 
 // Whether the file has room: header, profiles and footer, then the tuples, then the blocks, each taken from what is left.
@@ -204,27 +178,21 @@ fn check_sizes(
     entries: &[u8],
     identifications: u64,
     room: usize,
-) -> Check
+) -> Result<(), Refusal>
     requires ascending { Ascending (entries_in entries.now) }
     requires identifications_value { identifications ≡ sum (word_of tuples.now) (length tuples.now) }
     requires identifications_in_bounds { identifications * 16 ≤ length identifiers.now }
     ensures { result ≡ sizes_check (survey_of profiles.now tuples.now identifiers.now entries.now) room }
 {
     if profiles.len() >= 0x1_0000_0000 {
-        return Check::Refused(Refusal::Array);
+        return Err(Refusal::Array);
     }
     if !all_below(tuples, 0x1_0000) {
-        return Check::Refused(Refusal::Array);
+        return Err(Refusal::Array);
     }
-    let blocks = measure(entries, profiles.len());
+    let blocks = measure(entries, profiles.len())?;
     let bytes = tuples.len() as u64 * 8 + identifications * 16;
-    refusal::first(
-        refusal::rule(blocks.counted, Refusal::Array),
-        refusal::rule(
-            has_room(room, profiles.len(), bytes, blocks.bytes),
-            Refusal::Room,
-        ),
-    )
+    refusal::rule(has_room(room, profiles.len(), bytes, blocks), Refusal::Room)
 }
 
 // The whole check: 15, 11, 7 and 17.
@@ -234,24 +202,21 @@ pub fn check(
     identifiers: &[u8],
     entries: &[u8],
     room: usize,
-) -> Check
+) -> Result<(), Refusal>
     ensures { result ≡ lists_check profiles.now tuples.now identifiers.now entries.now room }
 {
     let most = identifiers.len() as u64 / 16;
     let identifications = claimed(tuples, most);
     if !(all_below(profiles, tuples.len() as u64) & (identifications <= most)) {
-        return Check::Refused(Refusal::Index);
+        return Err(Refusal::Index);
     }
-    let check = check_entries(entries, profiles.len());
-    match check {
-        Check::Passed => check_sizes(
-            profiles,
-            tuples,
-            identifiers,
-            entries,
-            identifications,
-            room,
-        ),
-        Check::Refused(r) => Check::Refused(r),
-    }
+    check_entries(entries, profiles.len())?;
+    check_sizes(
+        profiles,
+        tuples,
+        identifiers,
+        entries,
+        identifications,
+        room,
+    )
 }

@@ -1,5 +1,6 @@
 -- Profiles one after the other: structures from byte 64 on and blocks behind the tuples grow together, and neither touches the places of the
 -- tuples that stand between them.
+use Rattle.refusal.specs.Check.{Passed}
 use Prim.Native.Nat.{ℕ, ◌+◌, ◌*◌, ◌%◌, ◌^◌, ◌≤◌, ◌<◌}
 use mathlib.Core.Bool.{true}
 use mathlib.Core.List.{List, [], ◌∷◌, append-nil}
@@ -9,7 +10,6 @@ use native.Mathlib.Omega.{arith}
 use borrow.Author.Tests.{leb-true}
 use lib.ListN.{length}
 use Rattle.le.specs.Number.{number}
-use Rattle.refusal.specs.declared.Check.TheVariants.{Passed}
 use Rattle.layout.specs.Bytes.{bytes, ◌is◌, fields, join}
 use Rattle.layout.specs.Many.{many, to_four}
 use Rattle.layout.specs.Stands.{Stands}

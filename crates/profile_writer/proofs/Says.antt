@@ -1,5 +1,6 @@
 -- What writing says, told from its check: each refusal is given exactly if its rule is the first that is broken, and what was written is what
 -- is read.
+use Rattle.std.specs.Prelude.{Err, Ok}
 use Prim.Native.Nat.{ℕ, ◌+◌, ◌*◌, ◌^◌, ◌≤◌, ◌<◌}
 use mathlib.Core.Bool.{true}
 use mathlib.Core.List.{List, ◌++◌}
@@ -14,9 +15,8 @@ use lib.Seq.{take-append_seam, drop-append_seam}
 use Rattle.le.proofs.Laws.{number_small}
 use Rattle.refusal.specs.declared.Refusal.{Refusal}
 use Rattle.refusal.specs.declared.Refusal.TheVariants as No
-use Rattle.refusal.specs.declared.Check.{Check}
 use Rattle.refusal.specs.Number.{number_of}
-use Rattle.refusal.specs.Check.{if_passed}
+use Rattle.refusal.specs.Check.{Check, Answer, on_answer, Passed}
 use Rattle.refusal.proofs.Checks.{Decides, if_passed_answers, if_passed_refuses}
 use Rattle.layout.specs.Octets.{Octets}
 use Rattle.buffer.specs.Over.{over}
@@ -30,8 +30,6 @@ use Rattle.profile_file.proofs.Checks.{check_decides}
 use Rattle.profile_file.proofs.Most.{file_most}
 use Rattle.profile_file.proofs.Promise.{reads_back}
 use Rattle.profile_lists.specs.Lists.{word_of, entries_in, survey_of, all_there, lists_check}
-use Rattle.profile_writer.specs.declared.Written.{Written}
-use Rattle.profile_writer.specs.declared.Written.TheVariants.{Of, Refused}
 use Rattle.profile_writer.specs.Write.{write_answer, write_file}
 use Rattle.profile_writer.specs.Sent.{Listed, WriteSays}
 
@@ -110,20 +108,20 @@ module _ (profiles tuples identifiers entries file : List ℕ) (octets : Octets 
   unfolding lists_check
   decided = check_decides survey (all_there tuples identifiers) (length file)
 
-  abbrev answer : Written
+  abbrev answer : Answer ℕ
   answer = write_answer profiles tuples identifiers entries (length file)
 
   abbrev after : List ℕ
   after = write_file profiles tuples identifiers entries file
 
-  answered_iff : (n : ℕ) → (answer ≡ Of n) ↔ ((check ≡ Check.Passed) × (Of (length (profile_file survey)) ≡ Of n))
+  answered_iff : (n : ℕ) → (answer ≡ Ok n) ↔ ((check ≡ Passed) × (◌≡◌ {A = Answer ℕ} (Ok (length (profile_file survey))) (Ok n)))
   unfolding write_answer
-  answered_iff n = if_passed_answers Refused check (Of (length (profile_file survey))) (Of n) (λ r e z. let q : ◌≡◌ {A = ℕ} 0 1 = cc in omega arith)
+  answered_iff n = if_passed_answers Err check (Ok (length (profile_file survey))) (Ok n) (λ r e z. let q : ◌≡◌ {A = ℕ} 0 1 = cc in omega arith)
 
-  refused_iff : (r : Refusal) → (answer ≡ Refused r) ↔ (check ≡ Check.Refused r)
+  refused_iff : (r : Refusal) → (answer ≡ Err r) ↔ (check ≡ Err r)
   unfolding write_answer
   refused_iff r =
-      if_passed_refuses Refused check (Of (length (profile_file survey))) r (λ z. let q : ◌≡◌ {A = ℕ} 0 1 = cc in omega arith) (λ s z. (cc))
+      if_passed_refuses Err check (Ok (length (profile_file survey))) r (λ z. let q : ◌≡◌ {A = ℕ} 0 1 = cc in omega arith) (λ s z. (cc))
 
   fields_fit : FieldsFit survey
   fields_fit = record {
@@ -136,8 +134,8 @@ module _ (profiles tuples identifiers entries file : List ℕ) (octets : Octets 
     physical_fits = λ t j l m. number_small identifiers octets 8 _;
   }
 
-  module _ (n : ℕ) (e : answer ≡ Of n) where
-    passed : check ≡ Check.Passed
+  module _ (n : ℕ) (e : answer ≡ Ok n) where
+    passed : check ≡ Passed
     passed = ((answered_iff n).0 e).0
 
     kept : A × (U × (C × R))
@@ -156,7 +154,7 @@ module _ (profiles tuples identifiers entries file : List ℕ) (octets : Octets 
     }
 
     after_is : after ≡ profile_file survey ++ drop (length (profile_file survey)) file
-    unfolding write_file if_passed
+    unfolding write_file on_answer
     after_is = rw passed (over_start file (profile_file survey) kept.1.1.1)
 
     first_is : take n after ≡ profile_file survey
@@ -168,11 +166,11 @@ module _ (profiles tuples identifiers entries file : List ℕ) (octets : Octets 
     read : ReadsBack survey (take n after)
     read = rw first_is (reads_back survey writable)
 
-  untouched_is : (r : Refusal) → answer ≡ Refused r → after ≡ file
-  unfolding write_file if_passed
+  untouched_is : (r : Refusal) → answer ≡ Err r → after ≡ file
+  unfolding write_file on_answer
   untouched_is r e = rw ((refused_iff r).0 e)
 
-  broken : (r : Refusal) → (answer ≡ Refused r) ↔ Broken A U C R r
+  broken : (r : Refusal) → (answer ≡ Err r) ↔ Broken A U C R r
   broken r = Iff.trans (refused_iff r) (decided.refuses r)
 
   -- what was written is what is read
@@ -181,7 +179,7 @@ module _ (profiles tuples identifiers entries file : List ℕ) (octets : Octets 
   write_says = record {
     is_written = λ n. (
       λ e. let k = kept n e in (there_iff.0 k.0, (k.1.0, (k.1.1.0, (k.1.1.1, sym (n_is n e))))),
-      λ h. (answered_iff n).1 (decided.passes.1 (there_iff.1 h.0, (h.1.0, (h.1.1.0, h.1.1.1.0))), ap Of (sym h.1.1.1.1)),
+      λ h. (answered_iff n).1 (decided.passes.1 (there_iff.1 h.0, (h.1.0, (h.1.1.0, h.1.1.1.0))), ap Ok (sym h.1.1.1.1)),
     );
     is_file = first_is;
     reads_back = read;
@@ -208,7 +206,7 @@ module _ (profiles tuples identifiers entries file : List ℕ) (octets : Octets 
 
   -- so many bytes are enough for any lists of these lengths
   pub always_enough : 72 + length profiles * 40 + length tuples * 8 + length identifiers + length entries ≤ length file
-      → write_answer profiles tuples identifiers entries (length file) ≡ Refused No.Room → ⊥
+      → write_answer profiles tuples identifiers entries (length file) ≡ Err No.Room → ⊥
   always_enough l e =
       let h = write_says.refuses_17.0 e in
       omega (arith, file_most survey h.1.0, h.0.1, h.1.1.1)

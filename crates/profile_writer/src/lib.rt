@@ -3,7 +3,7 @@
 
 ghost use Rattle.std.specs.Prelude.{true, [], ◌∷◌, ◌++◌, ◌≡◌, ℕ, ◌+◌, ◌*◌, ◌^◌, ◌≤◌, ◌<◌, length};
 ghost use Rattle.le.specs.Number.{number};
-ghost use Rattle.refusal.specs.declared.Check.TheVariants as Check;
+ghost use Rattle.refusal.specs.Check.{Passed};
 ghost use Rattle.layout.specs.Bytes.{fields, ◌is◌};
 ghost use Rattle.layout.specs.Many.{many, to_four, zeros};
 ghost use Rattle.layout.specs.Stands.{Stands};
@@ -21,14 +21,7 @@ ghost use Rattle.profile_writer.specs.Table.{places_of};
 ghost use Rattle.profile_writer.specs.Write.{write_answer, write_file};
 
 use profile_lists::Run;
-use refusal::Check;
-
-// The file's length, or the refusal.
-#[derive(Clone, Copy)]
-pub enum Written {
-    Of(u64),
-    Refused(refusal::Refusal),
-}
+use refusal::Refusal;
 
 // ---- blocks
 
@@ -57,14 +50,15 @@ fn put_values(file: &mut [u8], at: usize, entries: &[u8], p: usize, start: usize
     ensures bytes { file.new ≡ over file.old at (value_array profile_shape (pairs_of (entries_in entries.now) p)) }
 {
     let n = entries.len() / 24;
-    let mut k: usize = 0;
-    while start + k < n && profile_lists::profile_of(entries, start + k) as usize == p {
+    for k in 0..n - start {
+        if profile_lists::profile_of(entries, start + k) as usize != p {
+            return start + k;
+        }
         let metric = profile_lists::metric_of(entries, start + k);
         let bits = profile_lists::bits_of(entries, start + k);
         put_value(file, at + k * 10, metric, bits);
-        k += 1;
     }
-    start + k
+    n
 }
 
 // The indices of some entries: how many there are.
@@ -74,16 +68,12 @@ fn put_indices(file: &mut [u8], at: usize, entries: &[u8], start: usize, held: u
     ensures contexts { result ≡ groups (λ (k : ℕ). (entries_in entries.now).context (start + k)) held }
     ensures bytes { file.new ≡ over file.old at (many (index_element 4 (λ (k : ℕ). (entries_in entries.now).context (start + k))) held) }
 {
-    let mut k: usize = 0;
-    let mut count: usize = 0;
-    while k < held {
+    let mut count = 0;
+    for k in 0..held {
         if profile_lists::leads_at(entries, start, k) {
             let context = profile_lists::context_of(entries, start + k);
             put_index(file, at + count * 12, context, k as u64);
             count += 1;
-            k += 1;
-        } else {
-            k += 1;
         }
     }
     count as u64
@@ -115,10 +105,7 @@ fn put_block(file: &mut [u8], at: usize, entries: &[u8], p: usize, start: usize)
     let held = end - start;
     let zeros = put_padding(file, at + held * 10, held);
     let contexts = put_indices(file, at + held * 10 + zeros, entries, start, held);
-    Run {
-        end: end,
-        contexts: contexts,
-    }
+    Run { end, contexts }
 }
 
 // ---- profiles
@@ -160,21 +147,20 @@ fn put_profiles(
     table: usize,
     blocks: usize,
 ) -> usize
-    requires file_value { lists_check profiles.now tuples.now identifiers.now entries.now (length file.old) ≡ Check.Passed }
+    requires file_value { lists_check profiles.now tuples.now identifiers.now entries.now (length file.old) ≡ Passed }
     requires stands { Stands file.old table (places_of tuples.now table (length tuples.now)) }
     requires table_value { table ≡ tuples_from (survey_of profiles.now tuples.now identifiers.now entries.now) }
     requires blocks_value { blocks ≡ table + tuples_size (survey_of profiles.now tuples.now identifiers.now entries.now) }
     ensures end { result ≡ blocks + length (many (block_bytes (entries_in entries.now)) (length profiles.now)) }
     ensures bytes { file.new ≡ over (over file.old 64 (many (info_bytes (survey_of profiles.now tuples.now identifiers.now entries.now)) (length profiles.now))) blocks (many (block_bytes (entries_in entries.now)) (length profiles.now)) }
 {
-    let mut p: usize = 0;
-    let mut start: usize = 0;
+    let mut start = 0;
     let mut at = blocks;
-    while p < profiles.len() {
+    for (p, named) in profiles.iter().enumerate() {
         let run = put_block(file, at, entries, p, start);
         let held = (run.end - start) as u64;
         let indices = at as u64 + held * 10 + 2 * (held % 2);
-        let tuple = le::load_u64(file, table + profiles[p] as usize * 8);
+        let tuple = le::load_u64(file, table + *named as usize * 8);
         put_info(
             file,
             64 + p * 40,
@@ -186,7 +172,6 @@ fn put_profiles(
         );
         at = indices as usize + run.contexts as usize * 12;
         start = run.end;
-        p += 1;
     }
     at
 }
@@ -199,12 +184,10 @@ fn put_places(file: &mut [u8], at: usize, tuples: &[u64]) -> usize
     ensures end { result ≡ at + length tuples.now * 8 + sum (word_of tuples.now) (length tuples.now) * 16 }
     ensures bytes { file.new ≡ over file.old at (places_of tuples.now at (length tuples.now)) }
 {
-    let mut t: usize = 0;
     let mut place = at;
-    while t < tuples.len() {
+    for (t, size) in tuples.iter().enumerate() {
         put::store_u64(file, at + t * 8, place as u64);
-        place = place + 8 + tuples[t] as usize * 16;
-        t += 1;
+        place = place + 8 + *size as usize * 16;
     }
     place
 }
@@ -237,10 +220,8 @@ fn put_identifications(
     ensures { file.new ≡ over file.old at (many (identification_bytes (tuples_in tuples.now identifiers.now) t) (word_of tuples.now t)) }
 {
     let n = tuples[t] as usize;
-    let mut j: usize = 0;
-    while j < n {
+    for j in 0..n {
         put_identification(file, at + j * 16, identifiers, (first + j) * 16);
-        j += 1;
     }
 }
 
@@ -250,16 +231,14 @@ fn put_tuples(file: &mut [u8], at: usize, tuples: &[u64], identifiers: &[u8])
     requires identifiers_value { sizes_fit (tuples_in tuples.now identifiers.now) ≡ true }
     ensures { file.new ≡ over file.old at (many (tuple_bytes (tuples_in tuples.now identifiers.now)) (length tuples.now)) }
 {
-    let mut t: usize = 0;
-    let mut first: usize = 0;
+    let mut first = 0;
     let mut place = at;
-    while t < tuples.len() {
-        let n = tuples[t] as usize;
-        put::store_u64(file, place, n as u64);
+    for (t, size) in tuples.iter().enumerate() {
+        let n = *size as usize;
+        put::store_u64(file, place, *size);
         put_identifications(file, place + 8, tuples, identifiers, t, first);
         place = place + 8 + n * 16;
         first += n;
-        t += 1;
     }
 }
 
@@ -298,7 +277,7 @@ fn put_file(
     identifiers: &[u8],
     entries: &[u8],
 ) -> usize
-    requires { lists_check profiles.now tuples.now identifiers.now entries.now (length file.old) ≡ Check.Passed }
+    requires { lists_check profiles.now tuples.now identifiers.now entries.now (length file.old) ≡ Passed }
     ensures end { result ≡ length (profile_file (survey_of profiles.now tuples.now identifiers.now entries.now)) }
     ensures bytes { file.new ≡ over file.old 0 (profile_file (survey_of profiles.now tuples.now identifiers.now entries.now)) }
 {
@@ -319,13 +298,10 @@ pub fn write(
     identifiers: &[u8],
     entries: &[u8],
     file: &mut [u8],
-) -> Written
+) -> Result<u64, Refusal>
     ensures answer { result ≡ write_answer profiles.now tuples.now identifiers.now entries.now (length file.old) }
     ensures bytes { file.new ≡ write_file profiles.now tuples.now identifiers.now entries.now file.old }
 {
-    let check = profile_lists::check(profiles, tuples, identifiers, entries, file.len());
-    match check {
-        Check::Passed => Written::Of(put_file(file, profiles, tuples, identifiers, entries) as u64),
-        Check::Refused(r) => Written::Refused(r),
-    }
+    profile_lists::check(profiles, tuples, identifiers, entries, file.len())?;
+    Ok(put_file(file, profiles, tuples, identifiers, entries) as u64)
 }

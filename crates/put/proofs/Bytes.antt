@@ -1,16 +1,11 @@
--- The bytes of a number, half by half.
+-- The bytes of a number: half by half, and as std has them.
 use Prim.Native.Nat.{ℕ, zero, suc, ◌+◌, ◌*◌, ◌/◌, ◌%◌, ◌^◌, ◌<◌}
-use mathlib.Core.List.{[], ◌∷◌, ◌++◌}
-use mathlib.Core.Path.{◌≡◌, ap, ◌∙◌}
-use native.Mathlib.Nat.{pow-suc, mul_assoc}
+use mathlib.Core.List.{◌∷◌, ◌++◌}
+use mathlib.Core.Path.{◌≡◌, refl, ap, ◌∙◌}
+use native.Mathlib.Nat.{pow-suc, mul_assoc, div-one, div-div-eq-div-mul}
 use native.Mathlib.Omega.{arith}
+use Rattle.std.specs.Int.{bytes_low_first}
 use Rattle.layout.specs.Bytes.{bytes}
-
-pub two_bytes : (x : ℕ) → x < 65536 → bytes 2 x ≡ x % 256 ∷ x / 256 ∷ []
-unfolding bytes
-two_bytes x l =
-    let e : (x / 256) % 256 ≡ x / 256 = omega arith in
-    rw e
 
 -- a low half of a bytes, and a high half of b
 pub halves : (a b low high : ℕ) → low < 256 ^ a → bytes (a + b) (low + 256 ^ a * high) ≡ bytes a low ++ bytes b high
@@ -27,8 +22,12 @@ halves (suc a) b low high l =
     let q : (low + 256 * (256 ^ a * high)) / 256 ≡ low / 256 + 256 ^ a * high = omega arith in
     rw (n, m, p, q) (ap (λ t. low % 256 ∷ t) (halves a b (low / 256) high s))
 
-pub four_bytes : (x : ℕ) → bytes 4 x ≡ bytes 2 (x % 65536) ++ bytes 2 (x / 65536)
-four_bytes x = ap (bytes 4) (omega arith) ∙ halves 2 2 (x % 65536) (x / 65536) (omega arith)
+-- as std has them, byte by byte
+by_byte : (i w x : ℕ) → bytes_low_first i w x ≡ bytes w (x / 256 ^ i)
+unfolding bytes
+by_byte i zero x = refl
+by_byte zero (suc w) x = rw (by_byte 1 w x, div-one)
+by_byte (suc i) (suc w) x = rw (by_byte (suc (suc i)) w x, div-div-eq-div-mul, ← pow-suc 256 (suc i))
 
-pub eight_bytes : (x : ℕ) → bytes 8 x ≡ bytes 4 (x % 4294967296) ++ bytes 4 (x / 4294967296)
-eight_bytes x = ap (bytes 8) (omega arith) ∙ halves 4 4 (x % 4294967296) (x / 4294967296) (omega arith)
+pub std_bytes : (w x : ℕ) → bytes_low_first 0 w x ≡ bytes w x
+std_bytes w x = by_byte 0 w x ∙ ap (bytes w) (div-one x)

@@ -10,24 +10,21 @@ pub fn store_u16(out: &mut [u8], at: usize, x: u16)
     requires { at + 2 ≤ length out.old }
     ensures { out.new ≡ over out.old at (bytes 2 x) }
 {
-    out[at] = (x % 0x100) as u8;
-    out[at + 1] = (x / 0x100) as u8;
+    out[at..at + 2].copy_from_slice(&x.to_le_bytes());
 }
 
 pub fn store_u32(out: &mut [u8], at: usize, x: u32)
     requires { at + 4 ≤ length out.old }
     ensures { out.new ≡ over out.old at (bytes 4 x) }
 {
-    store_u16(out, at, (x % 0x1_0000) as u16);
-    store_u16(out, at + 2, (x / 0x1_0000) as u16);
+    out[at..at + 4].copy_from_slice(&x.to_le_bytes());
 }
 
 pub fn store_u64(out: &mut [u8], at: usize, x: u64)
     requires { at + 8 ≤ length out.old }
     ensures { out.new ≡ over out.old at (bytes 8 x) }
 {
-    store_u32(out, at, (x % 0x1_0000_0000) as u32);
-    store_u32(out, at + 4, (x / 0x1_0000_0000) as u32);
+    out[at..at + 8].copy_from_slice(&x.to_le_bytes());
 }
 
 // A text as it is.
@@ -35,9 +32,5 @@ pub fn text(out: &mut [u8], at: usize, text: &[u8])
     requires { at + length text.now ≤ length out.old }
     ensures { out.new ≡ over out.old at text.now }
 {
-    let mut k: usize = 0;
-    while k < text.len() {
-        out[at + k] = text[k];
-        k += 1;
-    }
+    out[at..at + text.len()].copy_from_slice(text);
 }

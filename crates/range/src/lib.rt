@@ -4,7 +4,7 @@
 ghost use Rattle.std.specs.Prelude.{◌≡◌, ◌+◌, ◌*◌, leb};
 ghost use Rattle.range.specs.Range.{within, multiple};
 
-// The product of two smaller numbers is a u64. (A quotient, which serves for all, takes longer.)
+// The product of two smaller numbers is a u64. (A quotient or `checked_mul`, which serve for all, take longer.)
 const HALF: u64 = 0x1_0000_0000;
 
 // Whether count elements, a stride apart from a place on, end at or before another place.

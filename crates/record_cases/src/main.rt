@@ -2,147 +2,134 @@
 // kind (profiles, contexts, lines, tuple, identifier, header, sample or at), the file's name, and two numbers, 0 where not used.
 #![tactic(auto)]
 
-use count::Count;
+use array::Array;
+use refusal::Refusal;
+use script::Parts;
 use std::io;
 use std::rt::Files;
 use trace::{Line, Sample};
-use tuple::{Identifier, Tuple};
+use tuple::Identifier;
 
-fn spaced(rt: &impl Print, n: u64) -> io::Result<()> {
-    print!(rt; " {n}")
+// What a line asks of a file.
+#[derive(Clone, Copy)]
+enum Question {
+    Profiles,
+    Contexts,
+    Lines,
+    Tuple { profile: u64 },
+    Identifier { profile: u64, number: u64 },
+    Header { line: u64 },
+    Sample { line: u64, number: u64 },
+    At { line: u64, time: u64 },
 }
 
-fn refused(rt: &impl Print, r: refusal::Refusal) -> io::Result<()> {
-    print!(rt; " refused")?;
-    spaced(rt, refusal::number(r))
-}
+impl Question {
+    // By the first letter of the kind; none of a line with no kind.
+    fn read(kind: &[u8], numbers: &mut Parts) -> Option<Question> {
+        let letter = *kind.first()?;
+        let first = numbers.number();
+        let second = numbers.number();
+        Some(match letter {
+            b'p' => Question::Profiles,
+            b'c' => Question::Contexts,
+            b'l' => Question::Lines,
+            b't' => Question::Tuple { profile: first },
+            b'i' => Question::Identifier {
+                profile: first,
+                number: second,
+            },
+            b'h' => Question::Header { line: first },
+            b's' => Question::Sample {
+                line: first,
+                number: second,
+            },
+            _ => Question::At {
+                line: first,
+                time: second,
+            },
+        })
+    }
 
-fn show_count(rt: &impl Print, answer: Count) -> io::Result<()> {
-    match answer {
-        Count::Of(n) => {
-            print!(rt; " count")?;
-            spaced(rt, n)
+    fn ask(self, rt: &impl Print, file: &[u8]) -> io::Result<()> {
+        match self {
+            Question::Profiles => show_count(rt, count::profiles(file)),
+            Question::Contexts => show_count(rt, count::contexts(file)),
+            Question::Lines => show_count(rt, count::lines(file)),
+            Question::Tuple { profile } => show_tuple(rt, tuple::tuple_at(file, profile)),
+            Question::Identifier { profile, number } => {
+                show_identifier(rt, tuple::identifier_at(file, profile, number))
+            }
+            Question::Header { line } => show_line(rt, trace::line_at(file, line)),
+            Question::Sample { line, number } => {
+                show_sample(rt, trace::sample_at(file, line, number).map(Some))
+            }
+            Question::At { line, time } => show_sample(rt, trace::last_at(file, line, time)),
         }
-        Count::Refused(r) => refused(rt, r),
     }
 }
 
-fn show_tuple(rt: &impl Print, answer: Tuple) -> io::Result<()> {
+fn show_count(rt: &impl Print, answer: Result<u64, Refusal>) -> io::Result<()> {
     match answer {
-        Tuple::Of(a) => {
-            print!(rt; " tuple")?;
-            spaced(rt, a.count)
-        }
-        Tuple::Refused(r) => refused(rt, r),
+        Ok(n) => print!(rt; " count {n}"),
+        Err(r) => print!(rt; " refused {}", u32::from(r)),
     }
 }
 
-fn show_identifier(rt: &impl Print, answer: Identifier) -> io::Result<()> {
+fn show_tuple(rt: &impl Print, answer: Result<Array, Refusal>) -> io::Result<()> {
     match answer {
-        Identifier::Of {
-            kind,
-            flags,
-            logical,
-            physical,
-        } => {
-            print!(rt; " identifier")?;
-            spaced(rt, kind)?;
-            spaced(rt, flags)?;
-            spaced(rt, logical)?;
-            spaced(rt, physical)
-        }
-        Identifier::Refused(r) => refused(rt, r),
+        Ok(array) => print!(rt; " tuple {}", array.count),
+        Err(r) => print!(rt; " refused {}", u32::from(r)),
     }
 }
 
-fn show_line(rt: &impl Print, answer: Line) -> io::Result<()> {
+fn show_identifier(rt: &impl Print, answer: Result<Identifier, Refusal>) -> io::Result<()> {
     match answer {
-        Line::Of {
-            profile,
-            place: _,
-            samples,
-        } => {
-            print!(rt; " line")?;
-            spaced(rt, profile)?;
-            spaced(rt, samples)
-        }
-        Line::Refused(r) => refused(rt, r),
+        Ok(i) => print!(rt;
+            " identifier {} {} {} {}",
+            i.kind, i.flags, i.logical, i.physical
+        ),
+        Err(r) => print!(rt; " refused {}", u32::from(r)),
     }
 }
 
-fn show_sample(rt: &impl Print, answer: Sample) -> io::Result<()> {
+fn show_line(rt: &impl Print, answer: Result<Line, Refusal>) -> io::Result<()> {
     match answer {
-        Sample::At {
-            position,
-            time,
-            context,
-        } => {
-            print!(rt; " sample")?;
-            spaced(rt, position)?;
-            spaced(rt, time)?;
-            spaced(rt, context)
-        }
-        Sample::Absent => print!(rt; " absent"),
-        Sample::Refused(r) => refused(rt, r),
+        Ok(line) => print!(rt; " line {} {}", line.profile, line.samples),
+        Err(r) => print!(rt; " refused {}", u32::from(r)),
     }
 }
 
-// By the first letter of the kind.
-fn ask(rt: &impl Print, kind: u8, file: &[u8], a: u64, b: u64) -> io::Result<()> {
-    match kind {
-        b'p' => show_count(rt, count::profiles(file)),
-        b'c' => show_count(rt, count::contexts(file)),
-        b'l' => show_count(rt, count::lines(file)),
-        b't' => show_tuple(rt, tuple::tuple_at(file, a)),
-        b'i' => show_identifier(rt, tuple::identifier_at(file, a, b)),
-        b'h' => show_line(rt, trace::line_at(file, a)),
-        b's' => show_sample(rt, trace::sample_at(file, a, b)),
-        _ => show_sample(rt, trace::last_at(file, a, b)),
+fn show_sample(rt: &impl Print, answer: Result<Option<Sample>, Refusal>) -> io::Result<()> {
+    match answer {
+        Ok(Some(s)) => print!(rt; " sample {} {} {}", s.position, s.time, s.context),
+        Ok(None) => print!(rt; " absent"),
+        Err(r) => print!(rt; " refused {}", u32::from(r)),
     }
 }
 
-fn case(
-    rt: &(impl Files + Print + Eprint),
-    kind: u8,
-    name: &[u8],
-    a: u64,
-    b: u64,
-) -> io::Result<()> {
-    let mut buffer = [0u8; 32769];
-    let Some(n) = script::read_file(rt, name, &mut buffer)? else {
-        return Ok(());
-    };
-    ask(rt, kind, &buffer[..n], a, b)
+fn case(rt: &(impl Files + Print + Eprint), name: &[u8], question: Question) -> io::Result<()> {
+    let mut buffer = [0; 32769];
+    match script::read_file(rt, name, &mut buffer)? {
+        Some(file) => question.ask(rt, file),
+        None => Ok(()),
+    }
 }
 
 fn row(rt: &(impl Files + Print + Eprint), line: &[u8]) -> io::Result<()> {
     rt.write_all(line)?;
-    let kind = script::word(line, 0);
-    let at = kind.len() + 1;
-    let name = script::word(line, at);
-    let first = at + name.len() + 1;
-    let a = script::word(line, first);
-    let b = script::word(line, first + a.len() + 1);
-    if 0 < kind.len() {
-        case(rt, kind[0], name, script::decimal(a), script::decimal(b))?;
+    let mut words = script::words(line);
+    let kind = words.next_or_empty();
+    let name = words.next_or_empty();
+    if let Some(question) = Question::read(kind, &mut words) {
+        case(rt, name, question)?;
     }
     println!(rt)
 }
 
-fn each_line(rt: &(impl Files + Print + Eprint), list: &[u8]) -> io::Result<()> {
-    let mut at = 0;
-    while at < list.len() {
-        let line = script::line(list, at);
-        row(rt, line)?;
-        at = at + line.len() + 1;
-    }
-    Ok(())
-}
-
 fn main(rt: HostRuntime) -> io::Result<()> {
-    let mut buffer = [0u8; 65536];
-    let Some(n) = script::read_file(&rt, b"list", &mut buffer)? else {
+    let mut buffer = [0; 65536];
+    let Some(list) = script::read_file(&rt, b"list", &mut buffer)? else {
         return Ok(());
     };
-    each_line(&rt, &buffer[..n])
+    script::lines(list).try_for_each(|line| row(&rt, line))
 }

@@ -7,8 +7,8 @@ use native.Mathlib.Omega.{arith}
 use lib.ListN.{get_or}
 use Rattle.refusal.specs.declared.Refusal.{Refusal}
 use Rattle.refusal.specs.declared.Refusal.TheVariants as No
-use Rattle.refusal.specs.declared.Check.{Check}
-use Rattle.refusal.specs.declared.Check.TheVariants.{Passed, Refused}
+use Rattle.std.specs.Prelude.{Err}
+use Rattle.refusal.specs.Check.{Check, Passed}
 use Rattle.refusal.specs.Number.{number_of}
 use Rattle.refusal.specs.Check.{code_of}
 use Rattle.refusal.proofs.Checks.{not_both}
@@ -85,4 +85,4 @@ small r = (from_one r).1
 pub code_zero : (c : Check) → (code_of c ≡ 0) ↔ (c ≡ Passed)
 unfolding code_of
 code_zero Passed = (λ e. refl, λ e. refl)
-code_zero (Refused r) = (λ e. absurd (omega (arith, positive r)), λ e. absurd (not_both (sym e)))
+code_zero (Err r) = (λ e. absurd (omega (arith, positive r)), λ e. absurd (not_both (sym e)))

@@ -1,95 +1,56 @@
-// Refusals, and checks that end in one or pass.
+// Refusals and their numbers, and the check of one rule.
 #![tactic(auto)]
 
 ghost use Rattle.std.specs.Prelude.{◌≡◌};
 ghost use Rattle.refusal.specs.Number.{number_of};
-ghost use Rattle.refusal.specs.Check.{code_of, rule, first};
+ghost use Rattle.refusal.specs.Check.{code_of, rule};
 
-#[derive(Clone, Copy)]
+// Each with its number.
+#[derive(Clone, Copy, Debug, PartialEq, Eq, Hash)]
 pub enum Refusal {
-    Short,
-    Magic,
-    Version,
-    Footer,
-    Section,
-    Stride,
-    Array,
-    String,
-    Link,
-    Context,
-    Order,
-    Deep,
-    Slot,
-    Twice,
-    Index,
-    NotFinite,
-    Room,
-    Mark,
-    Spelling,
-    Total,
+    Short = 1,
+    Magic = 2,
+    Version = 3,
+    Footer = 4,
+    Section = 5,
+    Stride = 6,
+    Array = 7,
+    String = 8,
+    Link = 9,
+    Context = 10,
+    Order = 11,
+    Deep = 12,
+    Slot = 13,
+    Twice = 14,
+    Index = 15,
+    NotFinite = 16,
+    Room = 17,
+    Mark = 18,
+    Spelling = 19,
+    Total = 20,
 }
 
-// The number of a refusal: the only function that goes by its cases.
-pub fn number(r: Refusal) -> u64
-    ensures { result ≡ number_of r }
-{
-    match r {
-        Refusal::Short => 1,
-        Refusal::Magic => 2,
-        Refusal::Version => 3,
-        Refusal::Footer => 4,
-        Refusal::Section => 5,
-        Refusal::Stride => 6,
-        Refusal::Array => 7,
-        Refusal::String => 8,
-        Refusal::Link => 9,
-        Refusal::Context => 10,
-        Refusal::Order => 11,
-        Refusal::Deep => 12,
-        Refusal::Slot => 13,
-        Refusal::Twice => 14,
-        Refusal::Index => 15,
-        Refusal::NotFinite => 16,
-        Refusal::Room => 17,
-        Refusal::Mark => 18,
-        Refusal::Spelling => 19,
-        Refusal::Total => 20,
+impl From<Refusal> for u32 {
+    ghost from_gives = { λ r n. n ≡ number_of r };
+
+    fn from(r: Refusal) -> u32 {
+        r as u32
     }
 }
 
-#[derive(Clone, Copy)]
-pub enum Check {
-    Passed,
-    Refused(Refusal),
-}
-
-// 0 for a check that passed, and else the refusal's number.
-pub fn code(check: Check) -> u64
-    ensures { result ≡ code_of check }
+// 0 for an answer that is given, and else the refusal's number.
+pub fn code<T>(answer: &Result<T, Refusal>) -> u32
+    ensures { result ≡ code_of answer.now }
 {
-    match check {
-        Check::Passed => 0,
-        Check::Refused(r) => number(r),
+    match answer {
+        Ok(_) => 0,
+        Err(r) => u32::from(*r),
     }
 }
 
 // The check of one rule.
-pub fn rule(holds: bool, r: Refusal) -> Check
+pub fn rule(holds: bool, r: Refusal) -> Result<(), Refusal>
     ensures { result ≡ rule holds r }
 {
-    if holds {
-        Check::Passed
-    } else {
-        Check::Refused(r)
-    }
-}
-
-// Two checks, of which the first that is refused counts.
-pub fn first(a: Check, b: Check) -> Check
-    ensures { result ≡ first a b }
-{
-    match a {
-        Check::Passed => b,
-        Check::Refused(r) => Check::Refused(r),
-    }
+    if holds { Ok(()) } else { Err(r) }
 }

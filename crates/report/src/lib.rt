@@ -12,39 +12,20 @@ use traversal::Walked;
 // The longest file that the listing program takes.
 const LONGEST: usize = 32768;
 
-fn number(rt: &impl Print, n: u64) -> io::Result<()> {
-    print!(rt; "{n}")
+// Place, depth, id, type, relation and parent of a context.
+fn context(rt: &impl Print, record: &[u64; RECORD]) -> io::Result<()> {
+    let [place, depth, id, relation, kind, ..] = *record;
+    let parent = record[PARENT];
+    println!(rt; "{place} {depth} {id} {kind} {relation} {parent}")
 }
 
-fn spaced(rt: &impl Print, n: u64) -> io::Result<()> {
-    print!(rt; " ")?;
-    number(rt, n)
-}
-
-fn newline(rt: &impl Print) -> io::Result<()> {
-    println!(rt)
-}
-
-// Place, depth, id, type, relation and parent of the i-th context, if its record is there.
-fn context(rt: &impl Print, records: &[u64], i: usize) -> io::Result<()> {
-    if records.len() / RECORD <= i {
-        return Ok(());
-    }
-    let at = i * RECORD;
-    number(rt, records[at])?;
-    spaced(rt, records[at + 1])?;
-    spaced(rt, records[at + 2])?;
-    spaced(rt, records[at + 4])?;
-    spaced(rt, records[at + 3])?;
-    spaced(rt, records[at + PARENT])?;
-    newline(rt)
-}
-
+// The first n contexts, as far as their records are there.
 fn contexts(rt: &impl Print, records: &[u64], n: usize) -> io::Result<()> {
-    for i in 0..n {
-        context(rt, records, i)?;
-    }
-    Ok(())
+    let (records, _) = records.as_chunks::<RECORD>();
+    records
+        .iter()
+        .take(n)
+        .try_for_each(|record| context(rt, record))
 }
 
 // How many contexts a walk listed.
@@ -52,23 +33,16 @@ fn listed(walked: Walked) -> usize
     ensures { result ≡ number_listed walked }
 {
     match walked {
-        Walked::Complete(n) => n,
-        Walked::Truncated(n) => n,
-        Walked::Refused(_, n) => n,
+        Walked::Complete(n) | Walked::Truncated(n) | Walked::Refused(_, n) => n,
     }
 }
 
 fn end(rt: &impl Print, walked: Walked) -> io::Result<()> {
     match walked {
-        Walked::Complete(_) => print!(rt; "whole")?,
-        Walked::Truncated(_) => print!(rt; "cut")?,
-        Walked::Refused(r, _) => {
-            print!(rt; "refused")?;
-            spaced(rt, refusal::number(r))?;
-        }
+        Walked::Complete(n) => println!(rt; "whole {n}"),
+        Walked::Truncated(n) => println!(rt; "cut {n}"),
+        Walked::Refused(r, n) => println!(rt; "refused {} {n}", u32::from(r)),
     }
-    spaced(rt, listed(walked) as u64)?;
-    newline(rt)
 }
 
 // Walks a file with these slices, prints a heading, each context whose record there is room for, and the end; gives the number listed.

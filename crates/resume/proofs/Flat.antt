@@ -1,5 +1,6 @@
 -- A walk that keeps its way down in words: what is left of it is the rest of each array on the way, the deepest first. The frames' numbers
 -- and the contexts so far stand in no word; they say what the words are.
+use Rattle.std.specs.Prelude.{Err}
 use Prim.Native.Nat.{ℕ, zero, suc, ◌+◌, ◌-◌, ◌≤◌, ◌<◌}
 use mathlib.Core.Bool.{Bool, true, false}
 use mathlib.Core.List.{List, [], ◌∷◌}
@@ -11,8 +12,7 @@ use lib.Dec.{eqb, leb}
 use lib.ListN.{length, get_or, set, length-append, length-set}
 use Rattle.refusal.specs.declared.Refusal.{Refusal}
 use Rattle.refusal.specs.declared.Refusal.TheVariants as No
-use Rattle.refusal.specs.declared.Check.{Check}
-use Rattle.refusal.specs.Check.{either, rule, first, if_passed}
+use Rattle.refusal.specs.Check.{either, rule, first, if_passed, Check, on_answer, Passed}
 use Rattle.open.specs.Opening.{field}
 use Rattle.context.specs.Context.{Targets, children_place, children_bytes, ctx_id, extent, sibling_place, children_end, context_rule}
 use Rattle.open.specs.Kept.{ContextsKept}
@@ -127,7 +127,7 @@ on_up file here = go (eqb (field file here.p children_bytes) 0)
 -- the walk goes on to the context there
 pub record Goes (file : List ℕ) (t : Targets) (s : Slices) (here : Cursor) (k : ℕ) : Type 0 where
   pub fine_here : context_rule file here.p here.end ≡ true
-  pub passes : checks_after10 file t (here.up + 1) here.p s.table ≡ Check.Passed
+  pub passes : checks_after10 file t (here.up + 1) here.p s.table ≡ Passed
   pub fits : k ≤ length s.listing
 
 -- what the code needs of such a context
@@ -324,29 +324,29 @@ module _ {file : List ℕ} {t : Targets} {path : List ℕ} {was : Slices} {at st
     -- it does not go on
     pub flat_stops : (r : Walked) → r ≡ visit_answer file t here s.table (length s.listing) k → ((j : ℕ) → r ≡ Complete j → ⊥)
         → Ended file at path was all r s way
-    unfolding visit_answer first rule if_passed either
+    unfolding visit_answer rule on_answer either
     flat_stops r v z = go fine refl checks refl (leb k (length s.listing)) refl v
       where
         go : (a : Bool) → fine ≡ a → (c : Check) → checks ≡ c → (b : Bool) → leb k (length s.listing) ≡ b
             → r ≡ if_passed (λ v. Refused v k) (first (rule a No.Context) c) (either b (Complete k) (Truncated k)) → Ended file at path was all r s way
         go false ea c ec b eb q = rw q (refused_by No.Context (visit_10 E down (parent_of g.frames) path_here here.p here.end g.so ea))
-        go true ea (Check.Refused v) ec b eb q =
+        go true ea (Err v) ec b eb q =
             rw q (refused_by v (visit_refused E down (parent_of g.frames) path_here here.p here.end g.so v (checked ea ∙ ec)))
-        go true ea Check.Passed ec true eb q = absurd (z k q)
-        go true ea Check.Passed ec false eb q =
+        go true ea Passed ec true eb q = absurd (z k q)
+        go true ea Passed ec false eb q =
             rw q (cut_by (visit_cut E down (parent_of g.frames) path_here here.p here.end g.so (checked ea ∙ ec) (room ∙ eb)))
 
     -- it goes on
     pub flat_goes : (r : Walked) (j : ℕ) → r ≡ visit_answer file t here s.table (length s.listing) k → r ≡ Complete j → Goes file t s here k
-    unfolding visit_answer first rule if_passed either
+    unfolding visit_answer rule on_answer either
     flat_goes r j v z = go fine refl checks refl (leb k (length s.listing)) refl (sym v ∙ z)
       where
         go : (a : Bool) → fine ≡ a → (c : Check) → checks ≡ c → (b : Bool) → leb k (length s.listing) ≡ b
             → if_passed (λ v. Refused v k) (first (rule a No.Context) c) (either b (Complete k) (Truncated k)) ≡ Complete j → Goes file t s here k
         go false ea c ec b eb q = absurd (let y : ◌≡◌ {A = ℕ} 0 1 = cc in omega arith)
-        go true ea (Check.Refused v) ec b eb q = absurd (let y : ◌≡◌ {A = ℕ} 0 1 = cc in omega arith)
-        go true ea Check.Passed ec false eb q = absurd (let y : ◌≡◌ {A = ℕ} 0 1 = cc in omega arith)
-        go true ea Check.Passed ec true eb q = record { fine_here = ea; passes = ec; fits = leb-true k (length s.listing) eb }
+        go true ea (Err v) ec b eb q = absurd (let y : ◌≡◌ {A = ℕ} 0 1 = cc in omega arith)
+        go true ea Passed ec false eb q = absurd (let y : ◌≡◌ {A = ℕ} 0 1 = cc in omega arith)
+        go true ea Passed ec true eb q = record { fine_here = ea; passes = ec; fits = leb-true k (length s.listing) eb }
 
     module _ (goes : Goes file t s here k) where
       pub flat_sound : stop ≤ length file → t.at + t.size ≤ length file → Sound file s here

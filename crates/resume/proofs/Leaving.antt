@@ -1,5 +1,6 @@
 -- What a walk from a mark leaves, by what was visited: where the mark was passed, the contexts after it, their slots with those before
 -- them, and the mark of the last; where it was not, an empty table and 18 or the refusal that came first.
+use Rattle.std.specs.Prelude.{Err}
 use Prim.Native.Nat.{ℕ, zero, suc, ◌<◌}
 use mathlib.Core.Bool.{Bool, true, false, ◌&&◌, ◌||◌, not, and-true, and-false, true≢false}
 use mathlib.Core.List.{List, []}
@@ -10,8 +11,7 @@ use lib.Dec.{leb, ltb}
 use lib.ListN.{length, replicate}
 use Rattle.refusal.specs.declared.Refusal.{Refusal}
 use Rattle.refusal.specs.declared.Refusal.TheVariants as No
-use Rattle.refusal.specs.declared.Check.{Check}
-use Rattle.refusal.specs.Check.{either, rule, first, if_passed}
+use Rattle.refusal.specs.Check.{either, rule, first, on_answer, Passed}
 use Rattle.buffer.specs.Over.{over}
 use Rattle.layout.specs.Octets.{Octets}
 use Rattle.open.specs.Format.{meta, u64}
@@ -81,20 +81,20 @@ room_kept true n h = le-leb mark_room n (ltb-false n mark_room h)
 room_kept false n h = refl
 
 module _ (file : List ℕ) (m : Marks) (was : Slices) where
-  room_refused : not m.asks || leb mark_room (length was.mark) ≡ false → walk_check (ask_with file m was) ≡ Check.Refused No.Room
-  unfolding walk_check rule first
+  room_refused : not m.asks || leb mark_room (length was.mark) ≡ false → walk_check (ask_with file m was) ≡ Err No.Room
+  unfolding walk_check rule
   room_refused h = rw h
 
   room_passed : not m.asks || leb mark_room (length was.mark) ≡ true
       → walk_check (ask_with file m was) ≡ first (opening meta file) (rule (is_named (decode m.given)) No.Mark)
-  unfolding walk_check rule first
+  unfolding walk_check rule
   room_passed h = rw h
 
   pub no_room : m.asks && ltb (length was.mark) mark_room ≡ true → LeavesFrom itself file m was (Refused No.Room 0) was
   no_room h = refused_untouched file m was No.Room (room_refused (room_broken m.asks (length was.mark) h))
 
   pub refused_by : (r : Refusal) → m.asks && ltb (length was.mark) mark_room ≡ false
-      → first (opening meta file) (rule (is_named (decode m.given)) No.Mark) ≡ Check.Refused r → LeavesFrom itself file m was (Refused r 0) was
+      → first (opening meta file) (rule (is_named (decode m.given)) No.Mark) ≡ Err r → LeavesFrom itself file m was (Refused r 0) was
   refused_by r h e = refused_untouched file m was r (room_passed (room_kept m.asks (length was.mark) h) ∙ e)
 
 -- ---- by what was visited
@@ -123,8 +123,8 @@ module _ {file mark : List ℕ} {asks : Bool} {was : Slices} {ps : List (List �
   ended : Ended file place path (slices was.listing was.table was.records) seen w s way
   ended = rw (← v.opened.same) (v.done (marks_with mark asks) (length was.mark))
 
-  checked : walk_check q ≡ Check.Passed
-  unfolding walk_check rule first
+  checked : walk_check q ≡ Passed
+  unfolding walk_check rule
   checked = rw (v.roomy, v.opened.passed, v.well)
 
   by : VisitedBy q seen
@@ -146,7 +146,7 @@ module _ {file mark : List ℕ} {asks : Bool} {was : Slices} {ps : List (List �
   recorded_is = ended.holds.recorded ∙ ap (λ (l : List Entry). records_with l was.records) after_is
 
   table_is : table_after q was.table ≡ table_with (reached q) (length was.table)
-  unfolding table_after if_passed
+  unfolding table_after on_answer
   table_is = rw checked
 
   -- the mark is not passed

@@ -12,11 +12,11 @@ use Rattle.layout.specs.Bytes.{bytes, fields}
 use Rattle.layout.proofs.Laws.{length_fields, fields_append}
 use Rattle.buffer.specs.Over.{over}
 use Rattle.buffer.proofs.Laws.{over_none, over_append, length_over}
-use Rattle.mark.specs.Mark.{deepest, number_fields, head_fields, encode, Encodable}
+use Rattle.mark.specs.Mark.{number_fields, head_fields, encode, Encodable}
 use Rattle.mark.proofs.Bytes.{encoded_length}
 use Rattle.open.specs.Opening.{field}
 use Rattle.context.specs.Context.{children_place, sibling_place}
-use Rattle.resume.specs.Way.{WayTo, NumberOf, Leads, MarkPut}
+use Rattle.resume.specs.Way.{WayTo, NumberOf, MarkPut}
 use Rattle.resume.proofs.Places.{start_below, place_at, start_next}
 
 -- ---- bytes
@@ -49,13 +49,6 @@ numbers_snoc (y ∷ path) x = rw (numbers_snoc path x, append_assoc)
 -- ---- the way
 
 module _ (file : List ℕ) (start : ℕ) (way : List ℕ) where
-  module _ (leads : Leads file start way) where
-    pub way_shallow : get_or way 0 0 ≤ deepest
-    way_shallow = omega (arith, leads.1.depth, leads.2.shallow)
-
-    pub way_lies : (d : ℕ) → d < get_or way 0 0 → get_or way (d + 1) 0 + 24 ≤ length file
-    way_lies d l = rw (add-one d) (leads.1.lie d (omega (arith, leads.1.depth)))
-
   -- behind a head stand the numbers of the first d levels; the array on the next starts at `from`
   pub record Marked (head out : List ℕ) (from d : ℕ) : Type 0 where
     pub long : length out ≡ length head

@@ -17,7 +17,7 @@ ghost use Rattle.resume.specs.State.{RootsDone, AllDone, visit_answer, progress_
 
 use context::{CTX_ID, TARGETS};
 use open::CONTEXT;
-use refusal::{Check, Refusal};
+use refusal::Refusal;
 use seek::Seek;
 use traversal::Walked;
 
@@ -49,7 +49,7 @@ fn visit_answer(
     }
     let depth = here.up as u64 + 1;
     let check = visit::visit_check(file, targets, depth, here.p, table);
-    if let Check::Refused(r) = check {
+    if let Err(r) = check {
         return Walked::Refused(r, k);
     }
     if words < k {
@@ -280,13 +280,11 @@ fn put_mark(file: &[u8], start: usize, way: &[u64; WAY], out: &mut [u8])
     let depth = way[0] as usize;
     mark::put_head(out, depth);
     let mut from = start;
-    let mut d: usize = 0;
-    while d < depth {
+    for d in 0..depth {
         let p = way[d + 1] as usize;
         let n = number_of(file, from, p);
         mark::put_number(out, d, (n % 0x1_0000_0000) as u32);
         from = le::load_u64(file, p + 8) as usize;
-        d += 1;
     }
 }
 
@@ -369,18 +367,16 @@ pub fn walk_from(
     if asks & (new_mark.len() < mark::ROOM) {
         return Walked::Refused(Refusal::Room, 0);
     }
-    let sections = open::meta_sections(file);
-    let opened = open::check_meta(file, &sections);
-    let check = refusal::first(
-        opened,
-        refusal::rule(mark::well_formed(mark), Refusal::Mark),
-    );
-    match check {
-        Check::Passed => walk_opened(
-            file, &sections, mark, asks, listing, table, records, new_mark,
-        ),
-        Check::Refused(r) => Walked::Refused(r, 0),
+    let sections = match open::open_meta(file) {
+        Ok(sections) => sections,
+        Err(r) => return Walked::Refused(r, 0),
+    };
+    if !mark::well_formed(mark) {
+        return Walked::Refused(Refusal::Mark, 0);
     }
+    walk_opened(
+        file, &sections, mark, asks, listing, table, records, new_mark,
+    )
 }
 
 // From no mark, and without a new one.

@@ -1,17 +1,14 @@
--- The digits passed and those still to come write the number.
-use Prim.Native.Nat.{ℕ, ◌+◌, ◌-◌, ◌*◌, ◌^◌, ◌%◌, ◌≤◌, ◌<◌, min}
-use mathlib.Core.List.{List}
-use mathlib.Core.Path.{◌≡◌}
-use native.Mathlib.Numerals.{add-one}
-use lib.ListN.{length, get_or, drop, drop_of_length-le}
-use lib.Seq.{drop-cons}
+-- The digits passed so far write a number; one more digit makes it the next.
+use Prim.Native.Nat.{ℕ, ◌+◌, ◌-◌, ◌*◌, ◌^◌, ◌%◌, min}
+use mathlib.Core.List.{List, [], ◌∷◌, ◌++◌}
+use mathlib.Core.Path.{◌≡◌, refl}
 use Rattle.script.specs.Line.{decimal_from}
 
-module _ (text : List ℕ) (n i : ℕ) where
-  pub digit_more : i < length text → decimal_from n (drop i text) ≡ decimal_from (min (n * 10 + get_or text i 0 % 16) (2 ^ 64 - 1)) (drop (i + 1) text)
-  unfolding decimal_from
-  digit_more l = rw (add-one i, drop-cons text i 0 l)
+pub decimal_none : 0 ≡ decimal_from 0 []
+unfolding decimal_from
+decimal_none = refl
 
-  pub digits_end : length text ≤ i → decimal_from n (drop i text) ≡ n
-  unfolding decimal_from
-  digits_end l = rw (drop_of_length-le text l)
+pub decimal_push : (n : ℕ) (text : List ℕ) (c : ℕ) → decimal_from n (text ++ c ∷ []) ≡ min (decimal_from n text * 10 + c % 16) (2 ^ 64 - 1)
+unfolding decimal_from
+decimal_push n [] c = refl
+decimal_push n (b ∷ text) c = decimal_push (min (n * 10 + b % 16) (2 ^ 64 - 1)) text c

@@ -1,1 +1,3 @@
+pub mod File
 pub mod Line
+pub mod Show

@@ -16,12 +16,6 @@ both_right : (a b : Bool) → (a && b) ≡ true → b ≡ true
 both_right true b h = h
 both_right false b h = absurd (true≢false (sym h))
 
-pub all_four : (a b c d : Bool) → ((a && b) && (c && d)) ≡ true → (a ≡ true) × (b ≡ true) × (c ≡ true) × (d ≡ true)
-all_four a b c d e =
-    let low = both_left (a && b) (c && d) e in
-    let high = both_right (a && b) (c && d) e in
-    (both_left a b low, both_right a b low, both_left c d high, both_right c d high)
-
 module _ (p : ℕ → Bool) where
   pub every_none : every p 0 ≡ true
   unfolding every

@@ -1,15 +1,25 @@
 -- The loop that tests whether a sequence rises; in one that does, any two are a gap apart, and the other way round.
-use Prim.Native.Nat.{ℕ, zero, suc, ◌+◌, ◌-◌, ◌≤◌, ◌<◌}
-use mathlib.Core.Bool.{Bool, true, false, ◌&&◌}
+use Prim.Native.Nat.{ℕ, zero, suc, ◌+◌, ◌≤◌, ◌<◌}
+use mathlib.Core.Bool.{Bool, true, false, ◌&&◌, true≢false}
 use mathlib.Core.Logic.{◌⊎◌, inl, inr}
-use mathlib.Core.Path.{◌≡◌, refl, sym}
+use mathlib.Core.Path.{◌≡◌, refl, sym, ◌∙◌}
 use native.Mathlib.Nat.{eq-or-lt_of_le, le_of_suc-le-suc, not-suc-le-zero}
 use native.Mathlib.Numerals.{add-one}
 use native.Mathlib.Omega.{arith}
 use borrow.Author.Tests.{le-leb, lt-leb, leb-true, leb-false}
 use lib.Dec.{leb}
 use Rattle.seq.specs.Sequence.{floor, rises, Sorted, NonDecreasing}
-use Rattle.seq.proofs.Every.{all_four, every_none, every_more, every_at, every_of, every_not, every_broken}
+use Rattle.seq.proofs.Every.{every_none, every_next, every_more, every_at, every_of, every_not, every_broken}
+
+and_assoc : (a b c : Bool) → (a && (b && c)) ≡ ((a && b) && c)
+and_assoc true b c = refl
+and_assoc false b c = refl
+
+all_four : (a b c d : Bool) → ((a && b) && (c && d)) ≡ true → (a ≡ true) × (b ≡ true) × (c ≡ true) × (d ≡ true)
+all_four true true true d e = (refl, refl, refl, e)
+all_four true true false d e = absurd (true≢false (sym e))
+all_four true false c d e = absurd (true≢false (sym e))
+all_four false b c d e = absurd (true≢false (sym e))
 
 module _ (least gap : ℕ) (f : ℕ → ℕ) where
   abbrev test : ℕ → Bool
@@ -55,61 +65,57 @@ module _ (least gap : ℕ) (f : ℕ → ℕ) where
       at (zero, (l, e)) = inl (l, rw floor_first at (leb-false (floor least gap f 0) (f 0) e))
       at (suc k, (l, e)) = inr (k, (l, rw (floor_next k) at (leb-false (floor least gap f (suc k)) (f (suc k)) e)))
 
-  pub rises_one : least ≤ f 0 → rises least gap f 1 ≡ true
-  rises_one l = rises_of 1 (λ h. l) (λ k h. absurd (omega arith))
-
-  -- one more, and four more, each a gap above the one before it
-  rises_more : (k m n : ℕ) → m ≡ k + 1 → n ≡ m + 1 → rises least gap f m ≡ true → f k + gap ≤ f m → rises least gap f n ≡ true
+  -- where some do not rise, nor do more
+  pub rises_longer : (m n : ℕ) → m ≤ n → rises least gap f m ≡ false → rises least gap f n ≡ false
   unfolding rises
-  rises_more k m n e g h l =
+  rises_longer m n l h = let k = every_broken test m h in every_not test n k.0 (omega (arith, k.1.0)) k.1.1
+
+  -- one more, and four more, by a test of what stands there
+  rises_step : (k m n : ℕ) → m ≡ k + 1 → n ≡ m + 1 → rises least gap f n ≡ (rises least gap f m && leb (f k + gap) (f m))
+  unfolding rises
+  rises_step k m n e g =
       let low : floor least gap f m ≡ f k + gap = rw (e, add-one) (floor_next k) in
-      rw g (every_more test m h (le-leb (floor least gap f m) (f m) (rw low l)))
+      rw (g, every_next test m, low)
 
-  rises_four : (k : ℕ) → rises least gap f (k + 1) ≡ true
-      → f k + gap ≤ f (k + 1) → f (k + 1) + gap ≤ f (k + 2) → f (k + 2) + gap ≤ f (k + 3) → f (k + 3) + gap ≤ f (k + 4)
-      → rises least gap f (k + 5) ≡ true
-  rises_four k h one two three four =
-      let a = rises_more k (k + 1) (k + 2) refl (omega arith) h one in
-      let b = rises_more (k + 1) (k + 2) (k + 3) (omega arith) (omega arith) a two in
-      let c = rises_more (k + 2) (k + 3) (k + 4) (omega arith) (omega arith) b three in
-      rises_more (k + 3) (k + 4) (k + 5) (omega arith) (omega arith) c four
+  pub rises_four : (k : ℕ) {before one two three four : ℕ}
+      → before ≡ f k → one ≡ f (k + 1) → two ≡ f (k + 2) → three ≡ f (k + 3) → four ≡ f (k + 4)
+      → rises least gap f (k + 1) ≡ true
+      → ((leb (before + gap) one && leb (one + gap) two) && (leb (two + gap) three && leb (three + gap) four)) ≡ rises least gap f (k + 5)
+  rises_four k e0 e1 e2 e3 e4 h =
+      rw (
+        rises_step (k + 3) (k + 4) (k + 5) (omega arith) (omega arith),
+        rises_step (k + 2) (k + 3) (k + 4) (omega arith) (omega arith),
+        rises_step (k + 1) (k + 2) (k + 3) (omega arith) (omega arith),
+        rises_step k (k + 1) (k + 2) refl (omega arith),
+        h,
+        e0,
+        e1,
+        e2,
+        e3,
+        e4,
+      )
+      (and_assoc _ (leb (f (k + 2) + gap) (f (k + 3))) (leb (f (k + 3) + gap) (f (k + 4))))
 
-  -- by a test of what was read there
+  -- the same by any test that says so of two
   pub four_tested : (test : ℕ → ℕ → Bool) → ((a b : ℕ) → test a b ≡ true → a + gap ≤ b) → (k : ℕ) {before one two three four : ℕ}
       → before ≡ f k → one ≡ f (k + 1) → two ≡ f (k + 2) → three ≡ f (k + 3) → four ≡ f (k + 4)
       → ((test before one && test one two) && (test two three && test three four)) ≡ true
       → rises least gap f (k + 1) ≡ true → rises least gap f (k + 5) ≡ true
   four_tested test says k {before} {one} {two} {three} {four} e0 e1 e2 e3 e4 t h =
       let so = all_four (test before one) (test one two) (test two three) (test three four) t in
-      rises_four k h
-      (omega (arith, says before one so.0))
-      (omega (arith, says one two so.1))
-      (omega (arith, says two three so.2))
-      (omega (arith, says three four so.3))
-
--- a loop in steps of four: what stands at k is the last of n that is known to rise
-pub record Known (least gap : ℕ) (f : ℕ → ℕ) (n k : ℕ) : Type 0 where
-  pub within : k < n
-  pub so_far : rises least gap f (k + 1) ≡ true
-
-pub known_first : (least gap : ℕ) (f : ℕ → ℕ) (n : ℕ) → 0 < n → least ≤ f 0 → Known least gap f n 0
-known_first least gap f n l h = record { within = l; so_far = rises_one least gap f h }
-
-pub known_four : {least gap : ℕ} {f : ℕ → ℕ} {n k : ℕ} → Known least gap f n k → 4 < n - k
-    → (rises least gap f (k + 1) ≡ true → rises least gap f (k + 5) ≡ true) → Known least gap f n (k + 4)
-known_four {k = k} h l four =
-    let e : k + 4 + 1 ≡ k + 5 = omega arith in
-    record { within = omega (arith, h.within); so_far = rw e (four h.so_far) }
+      sym (rises_four k e0 e1 e2 e3 e4 h)
+      ∙ rw (
+        le-leb (before + gap) one (says before one so.0),
+        le-leb (one + gap) two (says one two so.1),
+        le-leb (two + gap) three (says two three so.2),
+        le-leb (three + gap) four (says three four so.3),
+      )
 
 -- the loop: k passed, all of them right, and the next is to be at least `low`
 pub record Rising (least gap : ℕ) (f : ℕ → ℕ) (n low k : ℕ) : Type 0 where
   pub within : k ≤ n
   pub low_is : low ≡ floor least gap f k
   pub so_far : rises least gap f k ≡ true
-
--- from where it is known: the last that has passed stands at k
-pub rising_after : {least gap : ℕ} {f : ℕ → ℕ} {n k : ℕ} → k < n → rises least gap f (k + 1) ≡ true → Rising least gap f n (f k + gap) (k + 1)
-rising_after {least} {gap} {f} {n} {k} l h = record { within = omega arith; low_is = rw add-one (sym (floor_next least gap f k)); so_far = h }
 
 pub rising_start : (least gap : ℕ) (f : ℕ → ℕ) (n : ℕ) → Rising least gap f n least 0
 unfolding floor

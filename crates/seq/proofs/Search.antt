@@ -1,4 +1,5 @@
 -- The search by halving in a sequence that does not fall; in a sorted one it finds the key's position.
+use Rattle.std.specs.Prelude.{None, Option, Some}
 use Prim.Native.Nat.{ℕ, zero, suc, ◌+◌, ◌-◌, ◌/◌, ◌≤◌, ◌<◌}
 use mathlib.Core.Bool.{Bool, true, false, true≢false}
 use mathlib.Core.Logic.{◌⊎◌, inl, inr, ◌↔◌}
@@ -11,8 +12,6 @@ use borrow.Author.Tests.{leb-true, leb-false, le-leb, lt-leb, eqb-true, eqb-fals
 use lib.Dec.{leb, eqb}
 use Rattle.refusal.specs.Check.{either}
 use Rattle.seq.specs.Sequence.{position, last_up_to, Sorted, NonDecreasing, Window}
-use Rattle.seq.specs.declared.Position.{Position}
-use Rattle.seq.specs.declared.Position.TheVariants.{At, Nowhere}
 
 -- the search by halving: all before `lo` is below the key, and all from `hi` on is at least the key
 pub record Bracket (f : ℕ → ℕ) (n key lo hi : ℕ) : Type 0 where
@@ -59,11 +58,11 @@ abbrev NoneIs : (t : ℕ → Bool) (n : ℕ) → Type 0
 NoneIs t n = (k : ℕ) → k < n → t k ≡ false
 
 -- a search that takes n where the test holds of it, and else goes on below n
-record TakesLast (t : ℕ → Bool) (s : ℕ → Position) : Type 0 where
-  at : (n k : ℕ) → (s n ≡ At k) ↔ LastIs t n k
-  nowhere : (n : ℕ) → (s n ≡ Nowhere) ↔ NoneIs t n
+record TakesLast (t : ℕ → Bool) (s : ℕ → Option ℕ) : Type 0 where
+  at : (n k : ℕ) → (s n ≡ Some k) ↔ LastIs t n k
+  nowhere : (n : ℕ) → (s n ≡ None) ↔ NoneIs t n
 
-takes_last : (t : ℕ → Bool) (s : ℕ → Position) → s 0 ≡ Nowhere → ((n : ℕ) → s (suc n) ≡ either (t n) (At n) (s n)) → TakesLast t s
+takes_last : (t : ℕ → Bool) (s : ℕ → Option ℕ) → s 0 ≡ None → ((n : ℕ) → s (suc n) ≡ either (t n) (Some n) (s n)) → TakesLast t s
 unfolding either
 takes_last t s start more = record { at = at_iff; nowhere = nowhere_at }
   where
@@ -71,14 +70,14 @@ takes_last t s start more = record { at = at_iff; nowhere = nowhere_at }
     split : {k n : ℕ} → k < suc n → (k ≡ n) ⊎ (k < n)
     split l = eq-or-lt_of_le (le_of_suc-le-suc l)
 
-    at_iff : (n k : ℕ) → (s n ≡ At k) ↔ LastIs t n k
+    at_iff : (n k : ℕ) → (s n ≡ Some k) ↔ LastIs t n k
     at_iff zero k = (λ e. absurd (let z : ◌≡◌ {A = ℕ} 0 1 = cc in omega arith), λ h. absurd (not-suc-le-zero h.0))
     at_iff (suc n) k = rw (more n) (by (t n) refl (at_iff n k))
       where
-        by : (b : Bool) → t n ≡ b → (s n ≡ At k) ↔ LastIs t n k → (either b (At n) (s n) ≡ At k) ↔ LastIs t (suc n) k
+        by : (b : Bool) → t n ≡ b → (s n ≡ Some k) ↔ LastIs t n k → (either b (Some n) (s n) ≡ Some k) ↔ LastIs t (suc n) k
         by true h r = (
           λ e. let z : n ≡ k = cc in (omega arith, rw (← z) h, λ j l m. absurd (omega arith)),
-          λ l. elim (split l.0) [ inl x ↦ ap At (sym x) | inr x ↦ absurd (true≢false (sym h ∙ l.2 n x (omega arith))) ],
+          λ l. elim (split l.0) [ inl x ↦ ap Some (sym x) | inr x ↦ absurd (true≢false (sym h ∙ l.2 n x (omega arith))) ],
         )
         by false h r = (
           λ e. let l = r.0 e in (omega (arith, l.0), l.1, λ j p q. elim (split q) [ inl x ↦ rw x h | inr x ↦ l.2 j p x ]),
@@ -88,11 +87,11 @@ takes_last t s start more = record { at = at_iff; nowhere = nowhere_at }
           ],
         )
 
-    nowhere_at : (n : ℕ) → (s n ≡ Nowhere) ↔ NoneIs t n
+    nowhere_at : (n : ℕ) → (s n ≡ None) ↔ NoneIs t n
     nowhere_at zero = (λ e k l. absurd (not-suc-le-zero l), λ h. start)
     nowhere_at (suc n) = rw (more n) (by (t n) refl (nowhere_at n))
       where
-        by : (b : Bool) → t n ≡ b → (s n ≡ Nowhere) ↔ NoneIs t n → (either b (At n) (s n) ≡ Nowhere) ↔ NoneIs t (suc n)
+        by : (b : Bool) → t n ≡ b → (s n ≡ None) ↔ NoneIs t n → (either b (Some n) (s n) ≡ None) ↔ NoneIs t (suc n)
         by true h r = (λ e. absurd (let z : ◌≡◌ {A = ℕ} 0 1 = cc in omega arith), λ f. absurd (true≢false (sym h ∙ f n (omega arith))))
         by false h r = (λ e k l. elim (split l) [ inl x ↦ rw x h | inr x ↦ r.0 e k x ], λ f. r.1 (λ k l. f k (omega arith)))
 
@@ -106,57 +105,57 @@ module _ (f : ℕ → ℕ) (key : ℕ) where
   up_to = takes_last (λ k. leb (f k) key) (last_up_to f key) refl (λ n. refl)
 
 -- in a sorted sequence a key's position is k exactly if it stands at k
-pub position_iff : (f : ℕ → ℕ) (key n k : ℕ) → Sorted f n → (position f key n ≡ At k) ↔ ((k < n) × (f k ≡ key))
+pub position_iff : (f : ℕ → ℕ) (key n k : ℕ) → Sorted f n → (position f key n ≡ Some k) ↔ ((k < n) × (f k ≡ key))
 position_iff f key n k s = (
   λ e. let l = ((equals f key).at n k).0 e in (l.0, eqb-true (f k) key l.1),
   λ h. ((equals f key).at n k).1 (h.0, eq-eqb (f k) key h.1, λ j l m. ne_eqb (f j) key (λ e. omega (arith, h.1, s k j l m))),
 )
 
 -- it is nowhere exactly if none of them is the key
-pub nowhere_iff : (f : ℕ → ℕ) (key n : ℕ) → (position f key n ≡ Nowhere) ↔ ((k : ℕ) → k < n → f k ≡ key → ⊥)
+pub nowhere_iff : (f : ℕ → ℕ) (key n : ℕ) → (position f key n ≡ None) ↔ ((k : ℕ) → k < n → f k ≡ key → ⊥)
 nowhere_iff f key n = (
   λ e k l. eqb-false (f k) key (((equals f key).nowhere n).0 e k l),
   λ h. ((equals f key).nowhere n).1 (λ k l. ne_eqb (f k) key (h k l)),
 )
 
 -- the last that is not above a key is k exactly if k's is not, and all behind it are
-pub last_iff : (f : ℕ → ℕ) (key n k : ℕ) → (last_up_to f key n ≡ At k) ↔ ((k < n) × (f k ≤ key) × ((j : ℕ) → k < j → j < n → key < f j))
+pub last_iff : (f : ℕ → ℕ) (key n k : ℕ) → (last_up_to f key n ≡ Some k) ↔ ((k < n) × (f k ≤ key) × ((j : ℕ) → k < j → j < n → key < f j))
 last_iff f key n k = (
   λ e. let l = ((up_to f key).at n k).0 e in (l.0, leb-true (f k) key l.1, λ j p q. leb-false (f j) key (l.2 j p q)),
   λ h. ((up_to f key).at n k).1 (h.0, le-leb (f k) key h.1, λ j p q. lt-leb (f j) key (h.2 j p q)),
 )
 
 -- it is nowhere exactly if all are above the key
-pub last_nowhere_iff : (f : ℕ → ℕ) (key n : ℕ) → (last_up_to f key n ≡ Nowhere) ↔ ((k : ℕ) → k < n → key < f k)
+pub last_nowhere_iff : (f : ℕ → ℕ) (key n : ℕ) → (last_up_to f key n ≡ None) ↔ ((k : ℕ) → k < n → key < f k)
 last_nowhere_iff f key n = (
   λ e k l. leb-false (f k) key (((up_to f key).nowhere n).0 e k l),
   λ h. ((up_to f key).nowhere n).1 (λ k l. lt-leb (f k) key (h k l)),
 )
 
 -- by one direction of these
-pub position_none : (f : ℕ → ℕ) (key n : ℕ) → ((k : ℕ) → k < n → f k ≡ key → ⊥) → position f key n ≡ Nowhere
+pub position_none : (f : ℕ → ℕ) (key n : ℕ) → ((k : ℕ) → k < n → f k ≡ key → ⊥) → position f key n ≡ None
 position_none f key n = (nowhere_iff f key n).1
 
-pub position_at : (f : ℕ → ℕ) (key n : ℕ) → Sorted f n → (k : ℕ) → k < n → f k ≡ key → position f key n ≡ At k
+pub position_at : (f : ℕ → ℕ) (key n : ℕ) → Sorted f n → (k : ℕ) → k < n → f k ≡ key → position f key n ≡ Some k
 position_at f key n s k l e = (position_iff f key n k s).1 (l, e)
 
 -- a position is below the number searched
-pub position_below : (f : ℕ → ℕ) (key n k : ℕ) → position f key n ≡ At k → k < n
+pub position_below : (f : ℕ → ℕ) (key n k : ℕ) → position f key n ≡ Some k → k < n
 position_below f key n k e = (((equals f key).at n k).0 e).0
 
 -- and the key stands there
-pub position_key : (f : ℕ → ℕ) (key n k : ℕ) → position f key n ≡ At k → f k ≡ key
+pub position_key : (f : ℕ → ℕ) (key n k : ℕ) → position f key n ≡ Some k → f k ≡ key
 position_key f key n k e = eqb-true (f k) key (((equals f key).at n k).0 e).1
 
-pub last_below : (f : ℕ → ℕ) (key n k : ℕ) → last_up_to f key n ≡ At k → k < n
+pub last_below : (f : ℕ → ℕ) (key n k : ℕ) → last_up_to f key n ≡ Some k → k < n
 last_below f key n k e = ((last_iff f key n k).0 e).0
 
 -- the last that is not above a key, where the ends have met on the way to the first above it
 module _ (key : ℕ) {f : ℕ → ℕ} {n lo hi : ℕ} (b : Bracket f n (key + 1) lo hi) (m : hi ≤ lo) where
-  pub bracket_before : lo ≡ 0 → last_up_to f key n ≡ Nowhere
+  pub bracket_before : lo ≡ 0 → last_up_to f key n ≡ None
   bracket_before e = (last_nowhere_iff f key n).1 (λ k l. omega (arith, b.above k (omega (arith, b.lo_le)) l))
 
-  pub bracket_last : 0 < lo → last_up_to f key n ≡ At (lo - 1)
+  pub bracket_last : 0 < lo → last_up_to f key n ≡ Some (lo - 1)
   bracket_last l = (last_iff f key n (lo - 1)).1 (
     omega (arith, b.lo_le, b.hi_le),
     omega (arith, b.below (lo - 1) (omega arith)),

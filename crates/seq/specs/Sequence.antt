@@ -1,8 +1,6 @@
 -- Sequences of numbers: f 0, .., f (n - 1).
-use Rattle.std.specs.Prelude.{ℕ, zero, suc, ◌+◌, ◌≤◌, ◌<◌, Bool, true, ◌&&◌, ◌≡◌, leb, eqb}
+use Rattle.std.specs.Prelude.{ℕ, zero, suc, ◌+◌, ◌≤◌, ◌<◌, Bool, true, ◌&&◌, ◌≡◌, leb, eqb, None, Option, Some}
 use Rattle.refusal.specs.Check.{either}
-use Rattle.seq.specs.declared.Position.{Position}
-use Rattle.seq.specs.declared.Position.TheVariants.{At, Nowhere}
 
 -- a test holds of every number below n
 unfoldable pub every : (ℕ → Bool) → (n : ℕ) → Bool
@@ -24,14 +22,14 @@ unfoldable pub rises : (least gap : ℕ) → (ℕ → ℕ) → (n : ℕ) → Boo
 rises least gap f n = every (λ k. leb (floor least gap f k) (f k)) n
 
 -- where a key is among them
-unfoldable pub position : (ℕ → ℕ) → (key n : ℕ) → Position
-position f key zero = Nowhere
-position f key (suc n) = either (eqb (f n) key) (At n) (position f key n)
+unfoldable pub position : (ℕ → ℕ) → (key n : ℕ) → Option ℕ
+position f key zero = None
+position f key (suc n) = either (eqb (f n) key) (Some n) (position f key n)
 
 -- where the last of them is that is not above a key
-unfoldable pub last_up_to : (ℕ → ℕ) → (key n : ℕ) → Position
-last_up_to f key zero = Nowhere
-last_up_to f key (suc n) = either (leb (f n) key) (At n) (last_up_to f key n)
+unfoldable pub last_up_to : (ℕ → ℕ) → (key n : ℕ) → Option ℕ
+last_up_to f key zero = None
+last_up_to f key (suc n) = either (leb (f n) key) (Some n) (last_up_to f key n)
 
 -- as facts: they increase strictly; they do not fall
 abbrev pub Sorted : (ℕ → ℕ) → (n : ℕ) → Type 0
@@ -46,3 +44,7 @@ pub record Window (f : ℕ → ℕ) (n key low left : ℕ) : Type 0 where
   pub fits : low + left ≤ n
   pub after : (k : ℕ) → k < n → f k ≡ key → low ≤ k
   pub before : (k : ℕ) → k < n → f k ≡ key → k < low + left
+
+-- what is read of number k, where calls of a function are what `reads` says, is f k
+abbrev pub Gives : (reads : ℕ → ℕ → Type 0) → (ℕ → ℕ) → (n : ℕ) → Type 0
+Gives reads f n = (k x : ℕ) → k < n → reads k x → x ≡ f k

@@ -1,8 +1,6 @@
-// Where a key is in a sequence: the answer of searches.
+// Sequences of numbers: whether one rises.
 #![tactic(auto)]
 
-#[derive(Clone, Copy)]
-pub enum Position {
-    At(u64),
-    Nowhere,
-}
+mod order;
+
+pub use order::rises;

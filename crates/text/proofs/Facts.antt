@@ -1,4 +1,6 @@
 -- Strings by plain facts about bytes: the bytes of a section are those of the file, and the first NUL among them decides.
+use Rattle.std.specs.Prelude.{Err, Ok, Result}
+use Rattle.utf8.specs.declared.Fault.{Fault}
 use Prim.Native.Nat.{ℕ, ◌+◌, ◌-◌, ◌≤◌, ◌<◌}
 use mathlib.Core.List.{List}
 use mathlib.Core.Logic.{◌↔◌}
@@ -9,44 +11,47 @@ use lib.ListN.{length, get_or, take, drop}
 use lib.Seq.{get_or-take, get_or-drop, take-take}
 use Rattle.refusal.specs.declared.Refusal.TheVariants as No
 use Rattle.scan.specs.Facts.{FirstIs}
-use Rattle.utf8.specs.declared.Utf8.{Utf8}
-use Rattle.utf8.specs.declared.Utf8.TheVariants.{Valid, Invalid, Unterminated}
 use Rattle.utf8.specs.Terminated.{terminated}
+use Rattle.utf8.specs.declared.Fault.TheVariants.{Invalid, Unterminated}
 use Rattle.utf8.specs.Encoding.{Encoded}
 use Rattle.utf8.proofs.Facts.{valid_iff, invalid_iff, unterminated_iff}
-use Rattle.text.specs.declared.Text.TheVariants.{At, Refused}
-use Rattle.text.specs.String.{bytes_from, text_of, string_at}
+use Rattle.refusal.proofs.Checks.{ok_same}
+use Rattle.text.specs.declared.Text.{Text}
+use Rattle.text.specs.String.{bytes_from, text_of, string_at, given_text}
 use Rattle.text.specs.Facts.{IsString, PlaceSays}
 use Rattle.text.proofs.Laws.{outside, from_place, count}
 
 -- ---- an answer tells what was found
 
-text_at_iff : (place p n : ℕ) (u : Utf8) → (text_of place u ≡ At p n) ↔ ((p ≡ place) × (u ≡ Valid n))
+pub text_fields : {p q m n : ℕ} → given_text p m ≡ given_text q n → (p ≡ q) × (m ≡ n)
+text_fields e = (ap (λ (t : Text). t.place) (ok_same e), ap (λ (t : Text). t.length) (ok_same e))
+
+text_at_iff : (place p n : ℕ) (u : Result ℕ Fault) → (text_of place u ≡ given_text p n) ↔ ((p ≡ place) × (u ≡ Ok n))
 unfolding text_of
-text_at_iff place p n (Valid m) = (
-  λ e. (let y : place ≡ p = cc in sym y, let z : m ≡ n = cc in ap Valid z),
+text_at_iff place p n (Ok m) = (
+  λ e. let f = text_fields e in (sym f.0, ap Ok f.1),
   λ h. let z : m ≡ n = cc in rw (h.0, z),
 )
-text_at_iff place p n Invalid = (
+text_at_iff place p n (Err Invalid) = (
   λ e. absurd (let z : ◌≡◌ {A = ℕ} 0 1 = cc in omega arith),
   λ h. absurd (let y = h.1 in let z : ◌≡◌ {A = ℕ} 0 1 = cc in omega arith),
 )
-text_at_iff place p n Unterminated = (
+text_at_iff place p n (Err Unterminated) = (
   λ e. absurd (let z : ◌≡◌ {A = ℕ} 0 1 = cc in omega arith),
   λ h. absurd (let y = h.1 in let z : ◌≡◌ {A = ℕ} 0 1 = cc in omega arith),
 )
 
-8-iff : (place : ℕ) (u : Utf8) → (text_of place u ≡ Refused No.String) ↔ (u ≡ Unterminated)
+8-iff : (place : ℕ) (u : Result ℕ Fault) → (text_of place u ≡ Err No.String) ↔ (u ≡ Err Unterminated)
 unfolding text_of
-8-iff place (Valid m) = (λ e. absurd (let z : ◌≡◌ {A = ℕ} 0 1 = cc in omega arith), λ e. absurd (let z : ◌≡◌ {A = ℕ} 0 1 = cc in omega arith))
-8-iff place Invalid = (λ e. absurd (let z : ◌≡◌ {A = ℕ} 0 1 = cc in omega arith), λ e. absurd (let z : ◌≡◌ {A = ℕ} 0 1 = cc in omega arith))
-8-iff place Unterminated = (λ e. refl, λ e. refl)
+8-iff place (Ok m) = (λ e. absurd (let z : ◌≡◌ {A = ℕ} 0 1 = cc in omega arith), λ e. absurd (let z : ◌≡◌ {A = ℕ} 0 1 = cc in omega arith))
+8-iff place (Err Invalid) = (λ e. absurd (let z : ◌≡◌ {A = ℕ} 0 1 = cc in omega arith), λ e. absurd (let z : ◌≡◌ {A = ℕ} 0 1 = cc in omega arith))
+8-iff place (Err Unterminated) = (λ e. refl, λ e. refl)
 
-19-iff : (place : ℕ) (u : Utf8) → (text_of place u ≡ Refused No.Spelling) ↔ (u ≡ Invalid)
+19-iff : (place : ℕ) (u : Result ℕ Fault) → (text_of place u ≡ Err No.Spelling) ↔ (u ≡ Err Invalid)
 unfolding text_of
-19-iff place (Valid m) = (λ e. absurd (let z : ◌≡◌ {A = ℕ} 0 1 = cc in omega arith), λ e. absurd (let z : ◌≡◌ {A = ℕ} 0 1 = cc in omega arith))
-19-iff place Invalid = (λ e. refl, λ e. refl)
-19-iff place Unterminated = (λ e. absurd (let z : ◌≡◌ {A = ℕ} 0 1 = cc in omega arith), λ e. absurd (let z : ◌≡◌ {A = ℕ} 0 1 = cc in omega arith))
+19-iff place (Ok m) = (λ e. absurd (let z : ◌≡◌ {A = ℕ} 0 1 = cc in omega arith), λ e. absurd (let z : ◌≡◌ {A = ℕ} 0 1 = cc in omega arith))
+19-iff place (Err Invalid) = (λ e. refl, λ e. refl)
+19-iff place (Err Unterminated) = (λ e. absurd (let z : ◌≡◌ {A = ℕ} 0 1 = cc in omega arith), λ e. absurd (let z : ◌≡◌ {A = ℕ} 0 1 = cc in omega arith))
 
 -- ---- the bytes of a section
 

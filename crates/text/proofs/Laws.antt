@@ -1,4 +1,5 @@
 -- How many bytes a section has from a place on, and parts that reach past the end.
+use Rattle.std.specs.Prelude.{Err}
 use Prim.Native.Nat.{ℕ, ◌+◌, ◌-◌, ◌≤◌, ◌<◌, min}
 use mathlib.Core.List.{List, []}
 use mathlib.Core.Path.{◌≡◌, sym, ap, ◌∙◌}
@@ -10,7 +11,6 @@ use lib.Seq.{take_all, take-nil}
 use Rattle.refusal.specs.declared.Refusal.TheVariants as No
 use Rattle.refusal.specs.Check.{either}
 use Rattle.utf8.proofs.Facts.{unterminated_iff}
-use Rattle.text.specs.declared.Text.TheVariants.{Refused}
 use Rattle.text.specs.String.{bytes_from, text_of, string_at}
 
 -- ---- parts
@@ -66,6 +66,6 @@ module _ (file section : List ℕ) (place : ℕ) where
         | no l ↦ absurd (omega (arith, outside (omega arith)))
       ]
 
-  pub none_left : length (bytes_from file section place) ≡ 0 → Refused No.String ≡ string_at file section place
+  pub none_left : length (bytes_from file section place) ≡ 0 → Err No.String ≡ string_at file section place
   unfolding string_at text_of
   none_left e = rw ((unterminated_iff (bytes_from file section place)).1 (λ n f. omega (arith, e, f.inside)))

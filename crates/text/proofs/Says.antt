@@ -1,5 +1,8 @@
 -- Answers that come to a string by way of checks: each check passes, and then the answer is that of the rest, or it refuses by another number
 -- than a string's 8 and 19.
+use Rattle.std.specs.Prelude.{Ok, Err}
+use Rattle.refusal.specs.Check.{Answer, on_answer}
+use Rattle.text.specs.declared.Text.{Text}
 use Prim.Native.Nat.{ℕ}
 use mathlib.Core.List.{List, []}
 use mathlib.Core.Logic.Iff
@@ -13,10 +16,9 @@ use Rattle.refusal.specs.Number.{number_of}
 use Rattle.refusal.specs.Words.{code_in}
 use Rattle.refusal.proofs.Numbers.{positive, same_number}
 use Rattle.utf8.specs.Encoding.{Encoded, encodings}
-use Rattle.text.specs.declared.Text.{Text}
-use Rattle.text.specs.declared.Text.TheVariants.{At, Refused}
-use Rattle.text.specs.String.{string_at, text_words, text_code, text_bytes, on_text}
+use Rattle.text.specs.String.{string_at, text_code, text_bytes, given_text}
 use Rattle.text.specs.Facts.{Sited, PlaceSays, CodeSays, StringSays}
+use Rattle.refusal.proofs.Checks.{err_same}
 use Rattle.text.proofs.Facts.{string_says}
 
 -- an answer that comes of a string: no refusal, 8 or 19
@@ -30,64 +32,64 @@ module _ {A : Type 0} (refused : Refusal → A) (own : (r s : Refusal) → refus
   pub 19-of-string : OfString refused (refused No.Spelling)
   19-of-string r k m e = m (ap number_of (own r No.Spelling e))
 
-at_of_string : (p n : ℕ) → OfString Refused (At p n)
+at_of_string : (p n : ℕ) → OfString Err (given_text p n)
 at_of_string p n r k m e = let z : ◌≡◌ {A = ℕ} 0 1 = cc in omega arith
 
-same_refusal : (r s : Refusal) → Refused r ≡ Refused s → r ≡ s
-same_refusal r s e = cc
+same_refusal : (r s : Refusal) → ◌≡◌ {A = Answer Text} (Err r) (Err s) → r ≡ s
+same_refusal r s e = err_same e
 
 -- an answer gives such a one exactly if it is read, and the rest gives it
-abbrev pub LeadsTo : (Read : Type 0) (rest answer : Text) → Type 0
-LeadsTo Read rest answer = (y : Text) → OfString Refused y → (answer ≡ y) ↔ (Read × (rest ≡ y))
+abbrev pub LeadsTo : (Read : Type 0) (rest answer : Answer Text) → Type 0
+LeadsTo Read rest answer = (y : Answer Text) → OfString Err y → (answer ≡ y) ↔ (Read × (rest ≡ y))
 
-pub leads_then : {P Q : Type 0} {last rest answer : Text} → LeadsTo P rest answer → LeadsTo Q last rest → LeadsTo (P × Q) last answer
+pub leads_then : {P Q : Type 0} {last rest answer : Answer Text} → LeadsTo P rest answer → LeadsTo Q last rest → LeadsTo (P × Q) last answer
 leads_then a b y o = (
   λ e. let h = (a y o).0 e in let k = (b y o).0 h.1 in ((h.0, k.0), k.1),
   λ h. (a y o).1 (h.0.0, (b y o).1 (h.0.1, h.1)),
 )
 
-place_says : (file : List ℕ) (at : Sited) {answer : Text} → LeadsTo at.Read (string_at file at.section at.place) answer
+place_says : (file : List ℕ) (at : Sited) {answer : Answer Text} → LeadsTo at.Read (string_at file at.section at.place) answer
     → PlaceSays file at answer
 place_says file at reads =
     let s = string_says file at.section at.place in
     record {
       handed-back = λ p n. (
-        λ e. let h = (reads (At p n) (at_of_string p n)).0 e in (h.0, ((s.handed-back p n).0 h.1).1),
-        λ h. (reads (At p n) (at_of_string p n)).1 (h.0, (s.handed-back p n).1 (tt, h.1)),
+        λ e. let h = (reads (given_text p n) (at_of_string p n)).0 e in (h.0, ((s.handed-back p n).0 h.1).1),
+        λ h. (reads (given_text p n) (at_of_string p n)).1 (h.0, (s.handed-back p n).1 (tt, h.1)),
       );
       is_8 = (
-        λ e. let h = (reads (Refused No.String) (8-of-string Refused same_refusal)).0 e in (h.0, (s.is_8.0 h.1).1),
-        λ h. (reads (Refused No.String) (8-of-string Refused same_refusal)).1 (h.0, s.is_8.1 (tt, h.1)),
+        λ e. let h = (reads (Err No.String) (8-of-string Err same_refusal)).0 e in (h.0, (s.is_8.0 h.1).1),
+        λ h. (reads (Err No.String) (8-of-string Err same_refusal)).1 (h.0, s.is_8.1 (tt, h.1)),
       );
       is_19 = (
-        λ e. let h = (reads (Refused No.Spelling) (19-of-string Refused same_refusal)).0 e in (h.0, (s.is_19.0 h.1).1),
-        λ h. (reads (Refused No.Spelling) (19-of-string Refused same_refusal)).1 (h.0, s.is_19.1 (tt, h.1)),
+        λ e. let h = (reads (Err No.Spelling) (19-of-string Err same_refusal)).0 e in (h.0, (s.is_19.0 h.1).1),
+        λ h. (reads (Err No.Spelling) (19-of-string Err same_refusal)).1 (h.0, s.is_19.1 (tt, h.1)),
       );
     }
 
 -- of an answer that has more in it, the string is that of the text it was made from
-pub text_in : {A : Type 0} (refused : Refusal → A) (textIn : A → Text) (answer : ℕ → ℕ → A) → ((r : Refusal) → textIn (refused r) ≡ Refused r)
-    → ((p n : ℕ) → textIn (answer p n) ≡ At p n) → (t : Text) → textIn (on_text refused t answer) ≡ t
-unfolding on_text
-text_in refused textIn answer own found (At p n) = found p n
-text_in refused textIn answer own found (Refused r) = own r
+pub text_in : {A : Type 0} (refused : Refusal → A) (textIn : A → Answer Text) (answer : Text → A) → ((r : Refusal) → textIn (refused r) ≡ Err r)
+    → ((t : Text) → textIn (answer t) ≡ Ok t) → (t : Answer Text) → textIn (on_answer refused t answer) ≡ t
+unfolding on_answer
+text_in refused textIn answer own found (Ok it) = found it
+text_in refused textIn answer own found (Err r) = own r
 
 -- ---- by its number
 
-text_refused_code : (t : Text) (r : Refusal) → (text_code t ≡ number_of r) ↔ (t ≡ Refused r)
-unfolding text_words code_in
-text_refused_code (At p n) r = (
+text_refused_code : (t : Answer Text) (r : Refusal) → (text_code t ≡ number_of r) ↔ (t ≡ Err r)
+unfolding code_in
+text_refused_code (Ok it) r = (
   λ e. absurd (omega (arith, positive r)),
   λ e. absurd (let z : ◌≡◌ {A = ℕ} 0 1 = cc in omega arith),
 )
-text_refused_code (Refused s) r = (λ e. ap Refused (same_number s r e), λ e. let z : s ≡ r = cc in ap number_of z)
+text_refused_code (Err s) r = (λ e. ap Err (same_number s r e), λ e. let z : s ≡ r = cc in ap number_of z)
 
-text_code_0 : (t : Text) → (text_code t ≡ 0) ↔ ((p : ℕ) × ((n : ℕ) × (t ≡ At p n)))
-unfolding text_words code_in
-text_code_0 (At p n) = (λ e. (p, (n, refl)), λ h. refl)
-text_code_0 (Refused s) = (λ e. absurd (omega (arith, positive s)), λ h. absurd (let y = h.1.1 in let z : ◌≡◌ {A = ℕ} 0 1 = cc in omega arith))
+text_code_0 : (t : Answer Text) → (text_code t ≡ 0) ↔ ((p : ℕ) × ((n : ℕ) × (t ≡ given_text p n)))
+unfolding code_in
+text_code_0 (Ok it) = (λ e. (it.place, (it.length, refl)), λ h. refl)
+text_code_0 (Err s) = (λ e. absurd (omega (arith, positive s)), λ h. absurd (let y = h.1.1 in let z : ◌≡◌ {A = ℕ} 0 1 = cc in omega arith))
 
-module _ (file : List ℕ) (at : Sited) {answer : Text} (s : PlaceSays file at answer) where
+module _ (file : List ℕ) (at : Sited) {answer : Answer Text} (s : PlaceSays file at answer) where
   code_says : CodeSays file at (text_code answer)
   code_says = record {
     code_0 = (
@@ -98,15 +100,15 @@ module _ (file : List ℕ) (at : Sited) {answer : Text} (s : PlaceSays file at a
     code_19 = Iff.trans (text_refused_code answer No.Spelling) s.is_19;
   }
 
-  refused_bytes : (t : Text) → (text_code t ≡ 0 → ⊥) → text_bytes file t ≡ []
-  unfolding text_bytes text_words code_in
-  refused_bytes (At p n) h = absurd (h refl)
-  refused_bytes (Refused r) h = refl
+  refused_bytes : (t : Answer Text) → (text_code t ≡ 0 → ⊥) → text_bytes file t ≡ []
+  unfolding text_bytes code_in
+  refused_bytes (Ok it) h = absurd (h refl)
+  refused_bytes (Err r) h = refl
 
-  encoded_of : (t : Text) → answer ≡ t → Encoded (text_bytes file t)
+  encoded_of : (t : Answer Text) → answer ≡ t → Encoded (text_bytes file t)
   unfolding text_bytes encodings
-  encoded_of (At p n) e = let k = (s.handed-back p n).0 e in subst (λ (q : ℕ). Encoded (take n (drop q file))) (sym k.1.0) k.1.1.1
-  encoded_of (Refused r) e = record { codes = []; scalars = tt; same = refl }
+  encoded_of (Ok it) e = let k = (s.handed-back it.place it.length).0 e in subst (λ (q : ℕ). Encoded (take it.length (drop q file))) (sym k.1.0) k.1.1.1
+  encoded_of (Err r) e = record { codes = []; scalars = tt; same = refl }
 
   both_forms : StringSays file at answer
   unfolding text_bytes
@@ -122,6 +124,6 @@ module _ (file : List ℕ) (at : Sited) {answer : Text} (s : PlaceSays file at a
 
 -- ---- what is read
 
-pub says_read : (file : List ℕ) (at : Sited) {answer : Text} → LeadsTo at.Read (string_at file at.section at.place) answer
+pub says_read : (file : List ℕ) (at : Sited) {answer : Answer Text} → LeadsTo at.Read (string_at file at.section at.place) answer
     → StringSays file at answer
 says_read file at reads = both_forms file at (place_says file at reads)

@@ -1,11 +1,11 @@
 -- Strings as facts: a string starts in its section, the first NUL from there on ends it, and the NUL is in the section too; and what an
 -- answer says of one.
-use Rattle.std.specs.Prelude.{ℕ, ◌+◌, ◌≤◌, ◌<◌, List, [], ◌↔◌, ◌≡◌, length, get_or, take, drop}
+use Rattle.refusal.specs.Check.{Answer}
+use Rattle.text.specs.declared.Text.{Text}
+use Rattle.std.specs.Prelude.{ℕ, ◌+◌, ◌≤◌, ◌<◌, List, [], ◌↔◌, ◌≡◌, length, get_or, take, drop, Err}
 use Rattle.refusal.specs.declared.Refusal.TheVariants as No
 use Rattle.utf8.specs.Encoding.{Encoded}
-use Rattle.text.specs.declared.Text.{Text}
-use Rattle.text.specs.declared.Text.TheVariants.{At, Refused}
-use Rattle.text.specs.String.{text_code, text_bytes}
+use Rattle.text.specs.String.{text_code, text_bytes, given_text}
 
 pub record IsString (file section : List ℕ) (place n : ℕ) : Type 0 where
   pub starts : get_or section 0 0 ≤ place
@@ -40,10 +40,10 @@ module _ (file : List ℕ) (s : Sited) where
   NotEncoded = s.Read × ((n : ℕ) × (HasString n × (Encoded (string_bytes n) → ⊥)))
 
   -- what an answer says of it, as place and length. "A string of any file is now handed back only if its bytes are UTF-8 by RFC 3629."
-  pub record PlaceSays (answer : Text) : Type 0 where
-    pub handed-back : (p n : ℕ) → (answer ≡ At p n) ↔ (s.Read × ((p ≡ s.place) × HasText n))
-    pub is_8 : (answer ≡ Refused No.String) ↔ NoString
-    pub is_19 : (answer ≡ Refused No.Spelling) ↔ NotEncoded
+  pub record PlaceSays (answer : Answer Text) : Type 0 where
+    pub handed-back : (p n : ℕ) → (answer ≡ given_text p n) ↔ (s.Read × ((p ≡ s.place) × HasText n))
+    pub is_8 : (answer ≡ Err No.String) ↔ NoString
+    pub is_19 : (answer ≡ Err No.Spelling) ↔ NotEncoded
 
   -- by the number that goes with it
   pub record CodeSays (code : ℕ) : Type 0 where
@@ -59,6 +59,6 @@ module _ (file : List ℕ) (s : Sited) where
     pub encoded : Encoded part
 
   -- in both forms
-  pub record StringSays (answer : Text) : Type 0 where
+  pub record StringSays (answer : Answer Text) : Type 0 where
     pub place : PlaceSays answer
     pub part : PartSays (text_bytes file answer) (text_code answer)

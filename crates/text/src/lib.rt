@@ -1,17 +1,18 @@
 // Strings in a section of a file.
 #![tactic(auto)]
 
-ghost use Rattle.std.specs.Prelude.{◌≡◌, length, take, drop};
+ghost use Rattle.std.specs.Prelude.{◌≡◌, length, take, drop, IfOk};
+ghost use Rattle.refusal.specs.Check.{code_of};
 ghost use Rattle.text.specs.String.{bytes_from, string_at, text_code, text_bytes};
 
 use refusal::Refusal;
-use utf8::Utf8;
+use utf8::Fault;
 
-// Where a string stands, without its NUL; or the refusal.
-#[derive(Clone, Copy)]
-pub enum Text {
-    At { place: u64, length: u64 },
-    Refused(refusal::Refusal),
+// Where a string stands, without its NUL.
+#[derive(Clone, Copy, Debug, PartialEq, Eq)]
+pub struct Text {
+    pub place: u64,
+    pub length: u64,
 }
 
 // How many bytes a section has from a place on.
@@ -39,40 +40,32 @@ fn count_from(file: &[u8], section: [u64; 2], place: u64) -> usize
 }
 
 // The string at a place of a section: 8, then 19.
-pub fn find(file: &[u8], section: [u64; 2], place: u64) -> Text
+pub fn find(file: &[u8], section: [u64; 2], place: u64) -> Result<Text, Refusal>
     ensures { result ≡ string_at file.now section place }
 {
     let n = count_from(file, section, place);
     if n == 0 {
-        return Text::Refused(Refusal::String);
+        return Err(Refusal::String);
     }
     let from = place as usize;
     let to = from + n;
     match utf8::check(&file[from..to]) {
-        Utf8::Valid(length) => Text::At {
+        Ok(length) => Ok(Text {
             place,
             length: length as u64,
-        },
-        Utf8::Invalid => Text::Refused(Refusal::Spelling),
-        Utf8::Unterminated => Text::Refused(Refusal::String),
+        }),
+        Err(Fault::Invalid) => Err(Refusal::Spelling),
+        Err(Fault::Unterminated) => Err(Refusal::String),
     }
 }
 
-// The bytes of an answer, and its number; no bytes where it is a refusal.
-pub fn bytes<'a>(file: &'a [u8], text: Text, refusal: &mut u64) -> &'a [u8]
-    ensures result_value { result.now ≡ text_bytes file.now text }
-    ensures refusal_after { refusal.new ≡ text_code text }
+// The bytes of an answer, as a part of the file.
+pub fn bytes<'a>(file: &'a [u8], text: Result<Text, Refusal>) -> Result<&'a [u8], Refusal>
+    ensures bytes { IfOk result (λ part. part.now ≡ text_bytes file.now text) }
+    ensures code { code_of result ≡ text_code text }
 {
-    match text {
-        Text::At { place, length } => {
-            *refusal = 0;
-            part(file, place, length)
-        }
-        Text::Refused(r) => {
-            *refusal = refusal::number(r);
-            &file[..0]
-        }
-    }
+    let at = text?;
+    Ok(part(file, at.place, at.length))
 }
 
 // Some bytes from a place on, as far as the file has them.

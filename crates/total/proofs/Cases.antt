@@ -10,7 +10,7 @@ use Rattle.float.specs.Float.{finite, less}
 use Rattle.total.specs.Totals.{start_of, step_of, tally_to, finish, totals_of, totals_words}
 
 answer : (ids bits : List ℕ) → List ℕ
-unfolding add lt of_bits to_bits finite less start_of either step_of tally_to every finish totals_of totals_words
+unfolding add lt of_bits to_bits finite less start_of either step_of tally_to every finish totals_of
 answer ids bits = totals_words (totals_of (λ i. get_or ids i 0) (λ i. get_or bits i 0) (length bits))
 
 abbrev one : ℕ

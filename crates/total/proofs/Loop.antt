@@ -1,4 +1,5 @@
 -- A loop over the entries, one at a time: what holds after k of them, from the first one to the answer.
+use Rattle.std.specs.Prelude.{Err}
 use Prim.Native.Nat.{ℕ, zero, suc, ◌+◌, ◌-◌, ◌≤◌, ◌<◌}
 use mathlib.Core.Bool.{Bool, true, false, not}
 use mathlib.Core.Path.{◌≡◌, refl, sym, ap, ◌∙◌}
@@ -13,7 +14,6 @@ use Rattle.seq.proofs.Every.{every_more, every_not}
 use Rattle.float.specs.Float.{finite, less}
 use Rattle.float.proofs.Order.{less_not, not_less_trans}
 use Rattle.total.specs.declared.Tally.{Tally}
-use Rattle.total.specs.declared.Totals.TheVariants.{Refused}
 use Rattle.total.specs.Totals.{start_of, step_of, tally_to, all_finite, finish, totals_of, Good}
 use Rattle.total.proofs.Tallies.{good_start, good_step, ordered_start, ordered_step}
 
@@ -34,7 +34,7 @@ module _ (ids bits : ℕ → ℕ) where
   tally_more zero h = absurd (omega arith)
   tally_more (suc k) h = rw sub-one
 
-  totals-of : (n : ℕ) → 0 < n → totals_of ids bits n ≡ either (all_finite bits n) (finish n (tally_to ids bits (n - 1))) (Refused No.NotFinite)
+  totals-of : (n : ℕ) → 0 < n → totals_of ids bits n ≡ either (all_finite bits n) (finish n (tally_to ids bits (n - 1))) (Err No.NotFinite)
   unfolding totals_of
   totals-of zero h = absurd (omega arith)
   totals-of (suc n) h = rw sub-one
@@ -58,7 +58,7 @@ module _ (ids bits : ℕ → ℕ) (n : ℕ) where
   }
 
   -- by a test of what was read there
-  pub summing_not : {t : Bool} {v k : ℕ} → k < n → v ≡ bits k → t ≡ finite v → not t ≡ true → Refused No.NotFinite ≡ totals_of ids bits n
+  pub summing_not : {t : Bool} {v k : ℕ} → k < n → v ≡ bits k → t ≡ finite v → not t ≡ true → Err No.NotFinite ≡ totals_of ids bits n
   unfolding either
   summing_not {t} {v} {k} l e f h =
       let no : finite (bits k) ≡ false = sym (f ∙ ap finite e) ∙ not-true t h in

@@ -1,15 +1,14 @@
 -- Totals over any sequence of entries: entry i has the identifier `ids i` and a value by its bits, `bits i`.
-use Rattle.std.specs.Prelude.{ℕ, zero, suc, Bool, true, not, List, [], ◌∷◌, ◌≡◌, T}
+use Rattle.total.specs.declared.Totals.{Totals}
+use Rattle.std.specs.Prelude.{ℕ, zero, suc, Bool, true, not, List, [], ◌∷◌, ◌≡◌, T, Err, Option, Ok, Some}
 use Rattle.std.specs.Float.{binary64}
 use Rattle.std.specs.Float.Ieee.{of_bits, to_bits, add, is_nan}
 use Rattle.refusal.specs.declared.Refusal.TheVariants as No
-use Rattle.refusal.specs.Check.{either}
+use Rattle.refusal.specs.Check.{either, Answer, Absent}
 use Rattle.refusal.specs.Words.{refused_words}
 use Rattle.seq.specs.Sequence.{every}
 use Rattle.float.specs.Float.{finite, less}
 use Rattle.total.specs.declared.Tally.{Tally}
-use Rattle.total.specs.declared.Totals.{Totals}
-use Rattle.total.specs.declared.Totals.TheVariants.{Of, Absent, Refused}
 
 -- the first entry alone
 unfoldable pub start_of : (id v : ℕ) → Tally
@@ -34,19 +33,24 @@ tally_to ids bits (suc k) = step_of (tally_to ids bits k) (ids (suc k)) (bits (s
 abbrev pub all_finite : (bits : ℕ → ℕ) → (n : ℕ) → Bool
 all_finite bits n = every (λ k. finite (bits k)) n
 
--- the answer for n entries
-unfoldable pub finish : (n : ℕ) → Tally → Totals
-finish n t = Of n t.least_of t.least t.greatest_of t.greatest (to_bits binary64 t.sum)
+-- an answer with these fields
+abbrev pub given_totals : (count least_of least greatest_of greatest sum : ℕ) → Answer (Option Totals)
+given_totals count least_of least greatest_of greatest sum =
+    Ok (Some (record { count = count; least_of = least_of; least = least; greatest_of = greatest_of; greatest = greatest; sum = sum }))
 
-unfoldable pub totals_of : (ids bits : ℕ → ℕ) → (n : ℕ) → Totals
+-- the answer for n entries
+unfoldable pub finish : (n : ℕ) → Tally → Answer (Option Totals)
+finish n t = given_totals n t.least_of t.least t.greatest_of t.greatest (to_bits binary64 t.sum)
+
+unfoldable pub totals_of : (ids bits : ℕ → ℕ) → (n : ℕ) → Answer (Option Totals)
 totals_of ids bits zero = Absent
-totals_of ids bits (suc k) = either (all_finite bits (suc k)) (finish (suc k) (tally_to ids bits k)) (Refused No.NotFinite)
+totals_of ids bits (suc k) = either (all_finite bits (suc k)) (finish (suc k) (tally_to ids bits k)) (Err No.NotFinite)
 
 -- an answer in words: its number, then its values
-unfoldable pub totals_words : Totals → List ℕ
-totals_words (Of count least_of least greatest_of greatest sum) = 0 ∷ count ∷ least_of ∷ least ∷ greatest_of ∷ greatest ∷ sum ∷ []
+abbrev pub totals_words : Answer (Option Totals) → List ℕ
+totals_words (Ok (Some it)) = 0 ∷ it.count ∷ it.least_of ∷ it.least ∷ it.greatest_of ∷ it.greatest ∷ it.sum ∷ []
 totals_words Absent = 100 ∷ []
-totals_words (Refused r) = refused_words r
+totals_words (Err r) = refused_words r
 
 -- what a step relies on
 pub record Good (t : Tally) : Type 0 where

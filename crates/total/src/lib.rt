@@ -4,6 +4,7 @@
 ghost use Rattle.std.specs.Prelude.{◌≡◌, true, false, ℕ};
 ghost use Rattle.std.specs.Float.{binary64};
 ghost use Rattle.std.specs.Float.Ieee.{of_bits, add};
+ghost use Rattle.refusal.specs.Check.{Found};
 ghost use Rattle.float.specs.Float.{finite, less};
 ghost use Rattle.total.specs.Totals.{start_of, step_of, finish, Good};
 
@@ -17,19 +18,15 @@ pub struct Tally {
     pub sum: f64,
 }
 
-// Of all entries: Absent where there is none, refused where one is not finite.
-#[derive(Clone, Copy)]
-pub enum Totals {
-    Of {
-        count: u64,
-        least_of: u64,
-        least: u64,
-        greatest_of: u64,
-        greatest: u64,
-        sum: u64,
-    },
-    Absent,
-    Refused(refusal::Refusal),
+// Of all entries.
+#[derive(Clone, Copy, Debug, PartialEq, Eq)]
+pub struct Totals {
+    pub count: u64,
+    pub least_of: u64,
+    pub least: u64,
+    pub greatest_of: u64,
+    pub greatest: u64,
+    pub sum: u64,
 }
 
 // The first entry alone.
@@ -109,12 +106,12 @@ pub fn add(t: Tally, bits: u64) -> Tally
     }
 }
 
-// The answer after n entries.
+// The totals after n entries.
 pub fn finish(n: u64, t: Tally) -> Totals
     requires { Good t }
-    ensures { result ≡ finish n t }
+    ensures { Found result ≡ finish n t }
 {
-    Totals::Of {
+    Totals {
         count: n,
         least_of: t.least_of,
         least: t.least,

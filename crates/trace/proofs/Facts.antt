@@ -1,4 +1,6 @@
 -- The check of a trace line by facts: what each of its answers says.
+use Rattle.std.specs.Prelude.{Err}
+use Rattle.refusal.specs.Check.{Passed}
 use Prim.Native.Nat.{ℕ, suc, ◌+◌, ◌-◌, ◌<◌}
 use mathlib.Core.Bool.{Bool, true, false, ◌&&◌}
 use mathlib.Core.List.{List}
@@ -10,7 +12,6 @@ use lib.Dec.{leb}
 use Rattle.range.specs.Range.{multiple}
 use Rattle.range.proofs.Tests.{both, multiple_iff}
 use Rattle.refusal.specs.declared.Refusal.TheVariants as No
-use Rattle.refusal.specs.declared.Check.TheVariants.{Passed, Refused}
 use Rattle.refusal.proofs.Numbers.{7-is-not-11}
 use Rattle.refusal.proofs.Checks.{both_hold, first_broken, second_broken}
 use Rattle.open.specs.Format as Format
@@ -83,12 +84,12 @@ module _ (file : List ℕ) (sections : List (List ℕ)) (start end : ℕ) where
   check_passes = both_hold (line_rule file sections start end) times_rule range_iff times_iff 7-is-not-11
 
   -- 7 exactly if it does not lie there
-  pub check_7 : (line_check file sections start end ≡ Refused No.Array) ↔ (RangeKept file sections start end → ⊥)
+  pub check_7 : (line_check file sections start end ≡ Err No.Array) ↔ (RangeKept file sections start end → ⊥)
   unfolding line_check
   check_7 = first_broken (line_rule file sections start end) times_rule range_iff times_iff 7-is-not-11
 
   -- 11 exactly if it lies there and a timestamp falls
-  pub check_11 : (line_check file sections start end ≡ Refused No.Order) ↔ (RangeKept file sections start end × TimeFalls file start end)
+  pub check_11 : (line_check file sections start end ≡ Err No.Order) ↔ (RangeKept file sections start end × TimeFalls file start end)
   unfolding line_check
   check_11 =
       let b = second_broken (line_rule file sections start end) times_rule range_iff times_iff 7-is-not-11 in

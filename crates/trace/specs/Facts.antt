@@ -1,9 +1,9 @@
 -- The rules of a trace line, and what its readers say of it, in facts.
-use Rattle.std.specs.Prelude.{ℕ, suc, ◌+◌, ◌-◌, ◌*◌, ◌%◌, ◌≤◌, ◌<◌, List, ◌↔◌, ◌≡◌}
+use Rattle.refusal.specs.Check.{Absent}
+use Rattle.std.specs.Prelude.{ℕ, suc, ◌+◌, ◌-◌, ◌*◌, ◌%◌, ◌≤◌, ◌<◌, List, ◌↔◌, ◌≡◌, Err}
 use Rattle.le.specs.Number.{number}
 use Rattle.refusal.specs.declared.Refusal.{Refusal}
 use Rattle.refusal.specs.declared.Refusal.TheVariants as No
-use Rattle.refusal.specs.declared.Check.TheVariants as Check
 use Rattle.open.specs.Format as Format
 use Rattle.open.specs.Names as Section
 use Rattle.open.specs.Opening.{pairs, opening}
@@ -11,9 +11,7 @@ use Rattle.open.specs.Kept.{Opens}
 use Rattle.array.specs.declared.Array.{Array}
 use Rattle.array.specs.Stored.{array_in}
 use Rattle.outside.specs.Facts.{LiesOutside}
-use Rattle.trace.specs.declared.Line.TheVariants as Line
-use Rattle.trace.specs.declared.Sample.TheVariants as Sample
-use Rattle.trace.specs.Trace.{time_at, context_at, samples_of, line_at, sample_at, last_at}
+use Rattle.trace.specs.Trace.{time_at, context_at, samples_of, line_at, sample_at, last_at, given_line, given_sample, found_sample}
 
 -- ---- the rules of a line from start to end
 
@@ -100,21 +98,21 @@ pub record AllLater (file : List ℕ) (i time : ℕ) : Type 0 where
 -- "11 in a trace line is now given only for a timestamp that falls", whatever is asked of the line; "Asked for a time, answer the last
 -- sample not later, else absent."
 pub record LineSays (file : List ℕ) (i : ℕ) : Type 0 where
-  pub line : (profile place samples : ℕ) → (line_at file i ≡ Line.Of profile place samples) ↔ LineThere file i profile place samples
-  pub line_not_opened : (r : Refusal) → opening Format.trace file ≡ Check.Refused r → line_at file i ≡ Line.Refused r
-  pub line_15 : (line_at file i ≡ Line.Refused No.Index) ↔ (Opens Format.trace file × ((trace_headers file).count ≤ i))
+  pub line : (profile place samples : ℕ) → (line_at file i ≡ given_line profile place samples) ↔ LineThere file i profile place samples
+  pub line_not_opened : (r : Refusal) → opening Format.trace file ≡ Err r → line_at file i ≡ Err r
+  pub line_15 : (line_at file i ≡ Err No.Index) ↔ (Opens Format.trace file × ((trace_headers file).count ≤ i))
   pub line_7 : (start end : ℕ) → HeaderThere file i start end → (RangeKept file (pairs Format.trace file) start end → ⊥)
-      → line_at file i ≡ Line.Refused No.Array
-  pub line_11 : (line_at file i ≡ Line.Refused No.Order) ↔ LineFalls file i
+      → line_at file i ≡ Err No.Array
+  pub line_11 : (line_at file i ≡ Err No.Order) ↔ LineFalls file i
   -- a sample is refused as its line is
-  pub sample_refused : (k : ℕ) (r : Refusal) → line_at file i ≡ Line.Refused r → sample_at file i k ≡ Sample.Refused r
+  pub sample_refused : (k : ℕ) (r : Refusal) → line_at file i ≡ Err r → sample_at file i k ≡ Err r
   pub sample : (k position timestamp context : ℕ)
-      → (sample_at file i k ≡ Sample.At position timestamp context) ↔ ((position ≡ k) × SampleThere file i position timestamp context)
-  pub sample_15 : (k profile place samples : ℕ) → LineThere file i profile place samples → samples ≤ k → sample_at file i k ≡ Sample.Refused No.Index
-  pub sample_11 : (k : ℕ) → (sample_at file i k ≡ Sample.Refused No.Order) ↔ LineFalls file i
+      → (sample_at file i k ≡ given_sample position timestamp context) ↔ ((position ≡ k) × SampleThere file i position timestamp context)
+  pub sample_15 : (k profile place samples : ℕ) → LineThere file i profile place samples → samples ≤ k → sample_at file i k ≡ Err No.Index
+  pub sample_11 : (k : ℕ) → (sample_at file i k ≡ Err No.Order) ↔ LineFalls file i
   -- so is the last one not later
-  pub last_refused : (time : ℕ) (r : Refusal) → line_at file i ≡ Line.Refused r → last_at file i time ≡ Sample.Refused r
+  pub last_refused : (time : ℕ) (r : Refusal) → line_at file i ≡ Err r → last_at file i time ≡ Err r
   pub last : (time position timestamp context : ℕ)
-      → (last_at file i time ≡ Sample.At position timestamp context) ↔ LastNotLater file i time position timestamp context
-  pub absent : (time : ℕ) → (last_at file i time ≡ Sample.Absent) ↔ AllLater file i time
-  pub last_11 : (time : ℕ) → (last_at file i time ≡ Sample.Refused No.Order) ↔ LineFalls file i
+      → (last_at file i time ≡ found_sample position timestamp context) ↔ LastNotLater file i time position timestamp context
+  pub absent : (time : ℕ) → (last_at file i time ≡ Absent) ↔ AllLater file i time
+  pub last_11 : (time : ℕ) → (last_at file i time ≡ Err No.Order) ↔ LineFalls file i

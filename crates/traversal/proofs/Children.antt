@@ -1,5 +1,7 @@
 -- A trail that ends whole has all roots, and all children of each of its contexts: an array traversed to its end adds each of its contexts,
 -- and a visit that passes leads into the array of the children, for which a level is left, since the context is no deeper than the limit.
+use Rattle.std.specs.Prelude.{Err}
+use Rattle.refusal.specs.Check.{Check, Passed}
 use Prim.Native.Nat.{ℕ, zero, suc, ◌+◌, ◌-◌, ◌≤◌, ◌<◌}
 use mathlib.Core.Bool.{Bool, true, false}
 use mathlib.Core.List.{List, [], ◌∷◌, ◌++◌, append_assoc}
@@ -12,8 +14,6 @@ use lib.Dec.{ltb}
 use lib.ListN.{length, length-append}
 use Rattle.seq.specs.Lists.{All, In}
 use Rattle.seq.proofs.Lists.{all_append, all_in}
-use Rattle.refusal.specs.declared.Check.{Check}
-use Rattle.refusal.specs.declared.Check.TheVariants.{Passed, Refused}
 use Rattle.refusal.proofs.Checks.{if_passed_answers}
 use Rattle.open.specs.Format.{meta}
 use Rattle.open.specs.Opening.{field, opening, pairs, on_opened}
@@ -46,7 +46,7 @@ module _ (P : List Entry → Type 0) where
   unfolding IfOn enter
   on_enter Passed true into l e f = f refl
   on_enter Passed false into l e f = tt
-  on_enter (Refused r) room into l e f = tt
+  on_enter (Err r) room into l e f = tt
 
   on_bind : (Q : List Entry → Type 0) (o : Outcome) (next : List Entry → Outcome) → IfOn P o → ((l : List Entry) → P l → IfOn Q (next l))
       → IfOn Q (bind o next)

@@ -1,5 +1,6 @@
 -- A traversal with room for n contexts after a mark is as much of the whole one as there is room for: up to the mark, and n after it. From
 -- the first context on that is the whole one truncated.
+use Rattle.std.specs.Prelude.{Err}
 use Prim.Native.Nat.{ℕ, suc, ◌+◌, ◌≤◌, ◌<◌}
 use mathlib.Core.Bool.{Bool, true, false}
 use mathlib.Core.List.{List, [], ◌∷◌}
@@ -9,9 +10,7 @@ use borrow.Author.Tests.{le-leb, lt-leb, leb-true, leb-false}
 use lib.Dec.{ltb, leb, leb-suc-suc}
 use lib.ListN.{length, take, length-append}
 use lib.Seq.{take_at, take_all}
-use Rattle.refusal.specs.Check.{either}
-use Rattle.refusal.specs.declared.Check.{Check}
-use Rattle.refusal.specs.declared.Check.TheVariants.{Passed, Refused}
+use Rattle.refusal.specs.Check.{either, Check, Passed}
 use Rattle.context.specs.Context.{Targets}
 use Rattle.context.specs.Entry.{Entry}
 use Rattle.traversal.specs.Demand3.{Begins}
@@ -117,7 +116,7 @@ module _ (path : List ℕ) (n : ℕ) where
   cuts_enter Passed true K K' l x e g h k = h (snoc l x) (omega (arith, leb-true (marks_from path l) n (sym e), marks_next path l x))
   cuts_enter Passed false K K' l x e g h k =
       sym (full l x (K (snoc l x)) (omega (arith, leb-false (marks_from path l) n (sym e))) (g (snoc l x)))
-  cuts_enter (Refused r) b K K' l x e g h k = sym (after_short (refused r l) k)
+  cuts_enter (Err r) b K K' l x e g h k = sym (after_short (refused r l) k)
 
   -- the traversal as long as there is room is the whole one cut so
   pub cuts_after : (a : Asked) (t : Targets) (free : List Entry → Bool) → ((l : List Entry) → free l ≡ leb (marks_from path l) n)

@@ -1,4 +1,5 @@
 -- Demand 3. A walk is the trail from just after its mark, truncated to the listing's words; with more room that trail only goes on.
+use Rattle.std.specs.Prelude.{Err}
 use Prim.Native.Nat.{ℕ, ◌+◌, ◌*◌, ◌≤◌, ◌<◌, min}
 use mathlib.Core.Bool.{Bool, true, false, true≢false}
 use mathlib.Core.List.{List, [], ◌++◌, map, map-append}
@@ -11,8 +12,7 @@ use lib.ListN.{length, take, drop, length-take, length-map}
 use lib.Seq.{take_at, drop_at}
 use Rattle.seq.proofs.Lists.{in_at}
 use Rattle.refusal.specs.declared.Refusal.{Refusal}
-use Rattle.refusal.specs.declared.Check.{Check}
-use Rattle.refusal.specs.Check.{either, if_passed}
+use Rattle.refusal.specs.Check.{either, if_passed, Check, on_answer, Passed}
 use Rattle.buffer.proofs.Laws.{over_eq}
 use Rattle.context.specs.Entry.{Entry, entry_words, words_each}
 use Rattle.traversal.specs.declared.Walked.{Walked}
@@ -68,12 +68,12 @@ cut_from path o = go (is_passed path (list_of o)) o (after_mark path (list_of o)
     go false (refused r l) m = refl
 
 never_trail_cut : (a : Asked) → is_cut (trail_from a) ≡ false
-unfolding trail_from if_passed
+unfolding trail_from on_answer
 never_trail_cut a = go (walk_check a)
   where
     go : (v : Check) → is_cut (if_passed (λ r. refused r []) v (from_mark (given_path a) (traversal a))) ≡ false
-    go Check.Passed = cut_from (given_path a) (traversal a) ∙ never_cut a
-    go (Check.Refused r) = refl
+    go Passed = cut_from (given_path a) (traversal a) ∙ never_cut a
+    go (Err r) = refl
 
 -- ---- one walk
 
@@ -195,21 +195,21 @@ module _ {file : List ℕ} (c : Call file) where
 
   -- ---- its table
 
-  pub filled : walk_check (asked c) ≡ Check.Passed → c.now.table ≡ table_with (reached (asked c)) (length c.was.table)
-  unfolding table_after if_passed
+  pub filled : walk_check (asked c) ≡ Passed → c.now.table ≡ table_with (reached (asked c)) (length c.was.table)
+  unfolding table_after on_answer
   filled h = c.promised.fills ∙ rw h
 
   same_slots : length c.now.table ≡ length c.was.table
-  unfolding table_after if_passed
+  unfolding table_after on_answer
   same_slots = ap length c.promised.fills ∙ go (walk_check a)
     where
       go : (v : Check) → length (if_passed (λ r. c.was.table) v (table_with (reached a) (length c.was.table))) ≡ length c.was.table
-      go Check.Passed = length_table (reached a) (length c.was.table)
-      go (Check.Refused r) = refl
+      go Passed = length_table (reached a) (length c.was.table)
+      go (Err r) = refl
 
   -- ---- refused before the trail
 
-  nothing_changed : (r : Refusal) → walk_check a ≡ Check.Refused r → Untouched c r
+  nothing_changed : (r : Refusal) → walk_check a ≡ Err r → Untouched c r
   nothing_changed r e =
       let left = refused_untouched file c.marks c.was r e in (
         c.promised.answers ∙ sym left.answers,
@@ -226,7 +226,7 @@ module _ {file : List ℕ} (c : Call file) where
       let p = passed_check a h in
       reached_passed a p.0 p.1 ∙ ap (λ (l : List Entry). up_to_mark (given_path a) (list_of (traversal a)) ++ l) same_listed
 
-  none_reached : walk_check a ≡ Check.Passed → mark_passed a ≡ false → reached a ≡ []
+  none_reached : walk_check a ≡ Passed → mark_passed a ≡ false → reached a ≡ []
   none_reached e h = reached_unpassed a e (sym (mark-passed a e) ∙ h)
 
   of_one : OneWalk c

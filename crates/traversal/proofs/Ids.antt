@@ -10,8 +10,7 @@ use lib.ListN.{length}
 use Rattle.seq.specs.Lists.{All, Differs, Distinct, Below}
 use Rattle.seq.proofs.Lists.{all_imp, all_append, ordered_snoc}
 use Rattle.refusal.specs.declared.Refusal.TheVariants as No
-use Rattle.refusal.specs.declared.Check.TheVariants.{Passed}
-use Rattle.refusal.specs.Check.{rule}
+use Rattle.refusal.specs.Check.{rule, Passed}
 use Rattle.refusal.proofs.Checks.{rule_passes, first_passes}
 use Rattle.open.specs.Opening.{field, pairs}
 use Rattle.context.specs.Context.{ctx_id, context_rule, links_rule, children_rule, targets_of}

@@ -11,8 +11,7 @@ use lib.ListN.{length, take, drop, length-take, length-drop, drop_of_length-le}
 use lib.Seq.{take_all, take-nil, take-add, drop-drop}
 use Rattle.seq.specs.Lists.{All, Distinct}
 use Rattle.seq.proofs.Lists.{all_take, all_drop}
-use Rattle.refusal.specs.declared.Check.TheVariants as Check
-use Rattle.refusal.specs.Check.{either, if_passed}
+use Rattle.refusal.specs.Check.{either, on_answer, Passed}
 use Rattle.context.specs.Entry.{Entry}
 use Rattle.traversal.specs.Traversal.{Asked, Outcome, cut, list_of, traversal}
 use Rattle.traversal.specs.From.{marks_of, skipped, is_passed, after_mark, up_to_mark, with_list, unpassed, from_mark, last_path}
@@ -186,9 +185,9 @@ module _ (o : Outcome) (apart : Distinct (marks_of (list_of o))) (path : List �
 
 -- ---- a walk of a file behind the rules that stand before the trail
 
-module _ (a : Asked) (check : walk_check a ≡ Check.Passed) where
+module _ (a : Asked) (check : walk_check a ≡ Passed) where
   pub walk_from : walk_of a ≡ outcome_from (given_path a) a.lent.words (traversal a)
-  unfolding walk_of trail_from if_passed outcome_from
+  unfolding walk_of trail_from on_answer outcome_from
   walk_from = rw check
 
   pub path-after : new_path a ≡ path_after (given_path a) a.lent.words (traversal a)

@@ -1,5 +1,6 @@
 -- Parts joined equal one walk. A mark that was handed out is read back as the path that it names, since a traversal's paths can be marks;
 -- so two parts join as their outcomes do. For more, the rest are one walk from the second part's mark on, by induction.
+use Rattle.std.specs.Prelude.{Err}
 use Prim.Native.Nat.{ℕ, ◌+◌, ◌*◌, ◌≤◌}
 use mathlib.Core.Bool.{Bool, true, false}
 use mathlib.Core.List.{List, [], ◌∷◌, ◌++◌, map, map-append, append_assoc, append-nil}
@@ -8,8 +9,7 @@ use native.Mathlib.Omega.{arith}
 use lib.ListN.{length, take, drop, replicate, length-append, length-replicate}
 use lib.Seq.{take_all}
 use Rattle.refusal.specs.declared.Refusal.TheVariants as No
-use Rattle.refusal.specs.declared.Check.{Check}
-use Rattle.refusal.specs.Check.{rule, first, if_passed}
+use Rattle.refusal.specs.Check.{rule, first, if_passed, Check, on_answer, Passed}
 use Rattle.layout.specs.Octets.{Octets}
 use Rattle.le.specs.Number.{number}
 use Rattle.open.specs.Format.{meta}
@@ -128,13 +128,13 @@ module _ {file : List ℕ} where
 
 -- none are listed where the mark is not passed
 unpassed_trail : (a : Asked) → mark_passed a ≡ false → list_of (trail_from a) ≡ []
-unfolding trail_from mark_passed if_passed
+unfolding trail_from mark_passed on_answer
 unpassed_trail a h = go (walk_check a) h
   where
     go : (v : Check) → if_passed (λ r. false) v (is_passed (given_path a) (list_of (traversal a))) ≡ false
         → list_of (if_passed (λ r. refused r []) v (from_mark (given_path a) (traversal a))) ≡ []
-    go Check.Passed k = ap list_of (from_unpassed (given_path a) (traversal a) k) ∙ list_unpassed (traversal a)
-    go (Check.Refused r) k = refl
+    go Passed k = ap list_of (from_unpassed (given_path a) (traversal a) k) ∙ list_unpassed (traversal a)
+    go (Err r) k = refl
 
 -- ---- two calls with the same mark given and tables as long, whatever they ask for
 
@@ -200,7 +200,7 @@ module _ {file : List ℕ} (c d : Call file) (given : decode d.marks.given ≡ d
 -- ---- a call, one that follows it, and the one walk that they equal
 
 module _ {file : List ℕ} (octets : Octets file) (c d : Call file) (can : Encodable (given_path (asked c))) (f : Follows c d) where
-  check_c : walk_check (asked c) ≡ Check.Passed
+  check_c : walk_check (asked c) ≡ Passed
   check_c = (passed_check (asked c) f.passed).0
 
   -- the mark handed on is read back
@@ -233,10 +233,10 @@ module _ {file : List ℕ} (octets : Octets file) (c d : Call file) (can : Encod
     begun_d : Begun d (new_path (asked c))
     begun_d = record { roomy = roomy-d; opens = (check_told (asked c) check_c).1; names = read_back }
 
-    check_d : walk_check (asked d) ≡ Check.Passed
+    check_d : walk_check (asked d) ≡ Passed
     check_d = begun_passes d (new_path (asked c)) begun_d
 
-    check_whole : walk_check (asked whole) ≡ Check.Passed
+    check_whole : walk_check (asked whole) ≡ Passed
     check_whole = alike_check c whole given slots (λ e. f.roomy) roomy-whole ∙ check_c
 
     given_whole : given_path (asked whole) ≡ path

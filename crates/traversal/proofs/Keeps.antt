@@ -1,14 +1,13 @@
 -- Induction over a traversal: a fact of the way down, of the next sibling's number and of the contexts so far holds wherever the
 -- traversal ends, if a visit that passes keeps it with the way one level longer, and the end of an array of children gives it back for
 -- the next sibling.
+use Rattle.std.specs.Prelude.{Err}
 use Prim.Native.Nat.{ℕ, zero, suc, ◌+◌, ◌-◌}
 use mathlib.Core.Bool.{Bool, true, false}
 use mathlib.Core.List.{List, [], ◌∷◌, ◌++◌}
 use mathlib.Core.Path.{◌≡◌, refl}
 use lib.Dec.{ltb}
-use Rattle.refusal.specs.declared.Check.{Check}
-use Rattle.refusal.specs.declared.Check.TheVariants.{Passed, Refused}
-use Rattle.refusal.specs.Check.{if_passed}
+use Rattle.refusal.specs.Check.{if_passed, Check, Passed, on_answer}
 use Rattle.open.specs.Format.{meta}
 use Rattle.open.specs.Opening.{field, opening, pairs, on_opened}
 use Rattle.context.specs.Context.{children_place, children_end, extent, targets_of}
@@ -50,7 +49,7 @@ module _ (E : Parameters) (I : Fact) (k : Kept E I) where
   unfolding enter
   keeps_enter Passed true into l e ups i z h f = f refl
   keeps_enter Passed false into l e ups i z h f = (z, (ups, (i, h)))
-  keeps_enter (Refused r) room into l e ups i z h f = (ups, (i, h))
+  keeps_enter (Err r) room into l e ups i z h f = (ups, (i, h))
 
   keeps_bind : (o : Outcome) (next : List Entry → Outcome) (ups : List ℕ) (i : ℕ) → After E I (snoc ups i) o
       → ((l : List Entry) → I ups (suc i) l → After E I ups (next l)) → After E I ups (bind o next)
@@ -94,7 +93,7 @@ module _ (E : Parameters) (I : Fact) (k : Kept E I) where
 -- at the end of a file's traversal
 pub keeps_traversal : (a : Asked) (I : Fact) → Kept (endless a (targets_of a.file (pairs meta a.file))) I → I [] 0 []
     → After (endless a (targets_of a.file (pairs meta a.file))) I [] (traversal a)
-unfolding traversal on_opened if_passed from_roots
+unfolding traversal on_opened on_answer from_roots
 keeps_traversal a I k h = go (opening meta a.file)
   where
     E : Parameters
@@ -102,4 +101,4 @@ keeps_traversal a I k h = go (opening meta a.file)
 
     go : (v : Check) → After E I [] (if_passed (λ r. refused r []) v (from_roots E))
     go Passed = keeps_level E I k (suc depth_limit) 0 [] _ _ [] h
-    go (Refused r) = ([], (0, h))
+    go (Err r) = ([], (0, h))

@@ -1,5 +1,6 @@
 -- More room for the same marks: from a mark as well, a longer table makes the trail wider, so that a walk's list is the beginning of the one
 -- with more room, and a walk that is final stays as it is. Over entries with all their fields, and so over every record that is handed out.
+use Rattle.std.specs.Prelude.{Err}
 use Prim.Native.Nat.{ℕ, ◌≤◌}
 use mathlib.Core.Bool.{Bool, true, false}
 use mathlib.Core.List.{List, []}
@@ -10,9 +11,7 @@ use borrow.Author.Tests.{leb-true, leb-false}
 use lib.Dec.{leb}
 use lib.ListN.{length, take, length-take}
 use Rattle.refusal.specs.declared.Refusal.{Refusal}
-use Rattle.refusal.specs.declared.Check.{Check}
-use Rattle.refusal.specs.declared.Check.TheVariants.{Passed, Refused}
-use Rattle.refusal.specs.Check.{if_passed}
+use Rattle.refusal.specs.Check.{if_passed, Check, Passed, on_answer}
 use Rattle.context.specs.Entry.{Entry}
 use Rattle.traversal.specs.Traversal.{Lengths, Marks, Asked, ask, Outcome, cut, refused, list_of, traversal}
 use Rattle.traversal.specs.From.{from_mark}
@@ -62,14 +61,14 @@ module _ (file : List ℕ) (m : Marks) (n n' : Lengths) (room : m.asks ≡ true 
   more = ask file m n'
 
   wider_trail : Wider (trail_from less) (trail_from more)
-  unfolding trail_from if_passed
+  unfolding trail_from on_answer
   wider_trail = rw (check_same file m m refl refl n n' room) (go (walk_check more))
     where
       go : (v : Check)
           → Wider (if_passed (λ r. refused r []) v (from_mark (given_path less) (traversal less)))
           (if_passed (λ r. refused r []) v (from_mark (given_path more) (traversal more)))
       go Passed = wider_from (given_path less) (traversal less) (traversal more) (wider_traversal file m n n' k)
-      go (Refused r) = inl refl
+      go (Err r) = inl refl
 
   pub entries_begin : Begins (list_of (walk_of less)) (list_of (walk_of more))
   unfolding walk_of

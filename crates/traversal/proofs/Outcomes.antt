@@ -1,5 +1,6 @@
 -- Each outcome of a walk from a mark. What the rules before the trail refuse leaves all as it was; a mark that is not passed leaves an empty
 -- table; one that is passed leads on from just after its context, and a new one stands at the start of its slice, which has room for each.
+use Rattle.std.specs.Prelude.{Err}
 use Prim.Native.Nat.{ℕ, zero, suc, ◌≤◌, ◌<◌}
 use mathlib.Core.Bool.{Bool, true, false, ◌&&◌, and-false, true≢false}
 use mathlib.Core.List.{List, [], ◌∷◌, ◌++◌, map, append_assoc}
@@ -11,8 +12,7 @@ use borrow.Author.Tests.{leb-true}
 use lib.ListN.{length, take, drop, get_or, length-append}
 use Rattle.refusal.specs.declared.Refusal.{Refusal}
 use Rattle.refusal.specs.declared.Refusal.TheVariants as No
-use Rattle.refusal.specs.declared.Check.{Check}
-use Rattle.refusal.specs.Check.{either, rule, first, if_passed}
+use Rattle.refusal.specs.Check.{either, rule, Check, on_answer, Passed}
 use Rattle.refusal.specs.Number.{number_of}
 use Rattle.buffer.specs.Over.{over}
 use Rattle.buffer.proofs.Laws.{drop_over}
@@ -113,10 +113,10 @@ module _ {file : List ℕ} (c : Call file) where
 
   -- ---- a mark that is not passed
 
-  module _ (check : walk_check a ≡ Check.Passed) (lost : is_passed (given_path a) (list_of (traversal a)) ≡ false) (r : Refusal)
+  module _ (check : walk_check a ≡ Passed) (lost : is_passed (given_path a) (list_of (traversal a)) ≡ false) (r : Refusal)
       (ends : unpassed (traversal a) ≡ refused r []) where
     trail_end : trail_from a ≡ refused r []
-    unfolding trail_from if_passed
+    unfolding trail_from on_answer
     trail_end = rw check (from_unpassed (given_path a) (traversal a) lost ∙ ends)
 
     walk_end : walk_of a ≡ refused r []
@@ -138,9 +138,9 @@ module _ {file : List ℕ} (c : Call file) where
 
   -- ---- whether it is passed
 
-  after_check : walk_check a ≡ Check.Passed → is_passed (given_path a) (list_of (traversal a)) ≡ true
+  after_check : walk_check a ≡ Passed → is_passed (given_path a) (list_of (traversal a)) ≡ true
       → trail_from a ≡ with_list (traversal a) (after_mark (given_path a) (list_of (traversal a)))
-  unfolding trail_from if_passed
+  unfolding trail_from on_answer
   after_check check p = rw check (from_passed (given_path a) (traversal a) p)
 
   unpassed_ends : (o : Outcome) → is_cut o ≡ false → (r : Refusal) × (unpassed o ≡ refused r [])
@@ -152,10 +152,10 @@ module _ {file : List ℕ} (c : Call file) where
   refuses h = go (walk_check a) refl
     where
       go : (v : Check) → walk_check a ≡ v → (r : Refusal) × (c.answer ≡ Refused r 0)
-      go Check.Passed e =
+      go Passed e =
           let end = unpassed_ends (traversal a) (never_cut a) in
           (end.0, (cleared e (sym (mark-passed a e) ∙ h) end.0 end.1).0)
-      go (Check.Refused r) e = (r, (one.not_begun r e).0)
+      go (Err r) e = (r, (one.not_begun r e).0)
 
   -- so it is wherever the walk ends in another way
   else_passed : ((r : Refusal) → c.answer ≡ Refused r 0 → ⊥) → mark_passed a ≡ true
@@ -172,18 +172,18 @@ module _ {file : List ℕ} (c : Call file) where
   handed_out e h =
       c.promised.marked ∙ ap₂ (λ (s t : Bool). either (s && t) (over c.was.mark 0 (encode (new_path a))) c.was.mark) e h
 
-  pub new_shallow : walk_check (asked c) ≡ Check.Passed → length (new_path (asked c)) ≤ 200
+  pub new_shallow : walk_check (asked c) ≡ Passed → length (new_path (asked c)) ≤ 200
   new_shallow check = new_path_all a check (λ path. length path ≤ 200) (decoded_shallow c.marks.given) (contexts_shallow a)
 
   module _ (path : List ℕ) (b : Begun c path) (t : OnTrail path (contexts c)) where
-    begun_check : walk_check a ≡ Check.Passed
+    begun_check : walk_check a ≡ Passed
     begun_check = begun_passes c path b
 
     begun_passed : is_passed (given_path a) (contexts c) ≡ true
     begun_passed = ap (λ (p : List ℕ). is_passed p (contexts c)) (begun_path c path b) ∙ on_passed path (contexts c) t
 
     leads_on : trail_from a ≡ with_list (traversal a) (after_mark path (contexts c))
-    unfolding trail_from if_passed
+    unfolding trail_from on_answer
     leads_on =
         rw begun_check (ap (λ (p : List ℕ). from_mark p (traversal a)) (begun_path c path b)
         ∙ from_passed path (traversal a) (on_passed path (contexts c) t))
@@ -230,21 +230,21 @@ module _ {file : List ℕ} (c : Call file) where
 
   -- the mark's context is not on the trail, which ends whole
   pub record NotOnTrail : Type 0 where
-    pub begun : walk_check a ≡ Check.Passed
+    pub begun : walk_check a ≡ Passed
     pub all : List Entry
     pub whole : traversal a ≡ on all
     pub not_there : is_passed (given_path a) all ≡ false
 
-  high : (r : Refusal) (n : ℕ) → c.answer ≡ Refused r n → 15 ≤ number_of r → (walk_check a ≡ Check.Refused r) ⊎ ((r ≡ No.Mark) × NotOnTrail)
+  high : (r : Refusal) (n : ℕ) → c.answer ≡ Refused r n → 15 ≤ number_of r → (walk_check a ≡ Err r) ⊎ ((r ≡ No.Mark) × NotOnTrail)
   high r n q h = go (walk_check a) refl (is_passed (given_path a) (list_of (traversal a))) refl (traversal a) refl
     where
       go : (v : Check) → walk_check a ≡ v → (b : Bool) → is_passed (given_path a) (list_of (traversal a)) ≡ b → (o : Outcome) → traversal a ≡ o
-          → (walk_check a ≡ Check.Refused r) ⊎ ((r ≡ No.Mark) × NotOnTrail)
-      go (Check.Refused s) e b p o t =
+          → (walk_check a ≡ Err r) ⊎ ((r ≡ No.Mark) × NotOnTrail)
+      go (Err s) e b p o t =
           let answers = (one.not_begun s e).0 in
           let same : s ≡ r = cc in
-          inl (e ∙ ap Check.Refused same)
-      go Check.Passed e true p o t =
+          inl (e ∙ ap Err same)
+      go Passed e true p o t =
           let ends = sym (not_cut c (λ m t. let z : ◌≡◌ {A = ℕ} 0 1 = cc in omega arith)).1 ∙ q in
           absurd (omega (
             arith,
@@ -252,12 +252,12 @@ module _ {file : List ℕ} (c : Call file) where
                 (sym (ap walked_of (after_check e p)) ∙ ends),
             h,
           ))
-      go Check.Passed e false p (on l) t =
+      go Passed e false p (on l) t =
           let answers = (cleared e p No.Mark (ap unpassed t)).0 in
           let same : No.Mark ≡ r = cc in
           inr (sym same, record { begun = e; all = l; whole = t; not_there = ap (λ (x : Outcome). is_passed (given_path a) (list_of x)) (sym t) ∙ p })
-      go Check.Passed e false p (cut l) t = absurd (true≢false (ap is_cut (sym t) ∙ never_cut a))
-      go Check.Passed e false p (refused s l) t =
+      go Passed e false p (cut l) t = absurd (true≢false (ap is_cut (sym t) ∙ never_cut a))
+      go Passed e false p (refused s l) t =
           let answers = (cleared e p s (ap unpassed t)).0 in
           let same : s ≡ r = cc in
           absurd (omega (arith, traversal_low a s l t, ap number_of same, h))
@@ -303,8 +303,8 @@ module _ {file : List ℕ} (c : Call file) where
   no_room_17 : c.marks.asks ≡ true → length c.was.mark < 805 → Untouched c No.Room
   no_room_17 e l = one.not_begun No.Room (no_room_check c e l)
 
-  ill_formed_18 : Roomy c → opening meta file ≡ Check.Passed → decode c.marks.given ≡ malformed → Untouched c No.Mark
-  unfolding first rule is_named
+  ill_formed_18 : Roomy c → opening meta file ≡ Passed → decode c.marks.given ≡ malformed → Untouched c No.Mark
+  unfolding rule is_named
   ill_formed_18 h e m = one.not_begun No.Mark (roomy_check c h ∙ rw (e, m))
 
   missing_18 : (path : List ℕ) → Begun c path → (l : List Entry) → traversal a ≡ on l → (OnTrail path l → ⊥) → Cleared c No.Mark
@@ -313,7 +313,7 @@ module _ {file : List ℕ} (c : Call file) where
   only_17 : ((n : ℕ) × (c.answer ≡ Refused No.Room n)) ↔ ((c.marks.asks ≡ true) × (length c.was.mark < 805))
   only_17 = (λ x. go (high No.Room x.0 x.1 (omega arith)), λ x. (0, (no_room_17 x.0 x.1).0))
     where
-      go : (walk_check a ≡ Check.Refused No.Room) ⊎ ((No.Room ≡ No.Mark) × NotOnTrail) → (c.marks.asks ≡ true) × (length c.was.mark < 805)
+      go : (walk_check a ≡ Err No.Room) ⊎ ((No.Room ≡ No.Mark) × NotOnTrail) → (c.marks.asks ≡ true) × (length c.was.mark < 805)
       go (inl e) = of (check_refused a No.Room e (omega arith))
         where
           of : ((No.Room ≡ No.Room) × ShortRoom a) ⊎ ((No.Room ≡ No.Mark) × IllFormed a) → (c.marks.asks ≡ true) × (length c.was.mark < 805)
@@ -324,22 +324,22 @@ module _ {file : List ℕ} (c : Call file) where
   no_spelling : (n : ℕ) → c.answer ≡ Refused No.Spelling n → ⊥
   no_spelling n q = go (high No.Spelling n q (omega arith))
     where
-      go : (walk_check a ≡ Check.Refused No.Spelling) ⊎ ((No.Spelling ≡ No.Mark) × NotOnTrail) → ⊥
+      go : (walk_check a ≡ Err No.Spelling) ⊎ ((No.Spelling ≡ No.Mark) × NotOnTrail) → ⊥
       go (inl e) =
           elim (check_refused a No.Spelling e (omega arith)) [ inl s ↦ omega (arith, ap number_of s.0) | inr s ↦ omega (arith, ap number_of s.0) ]
       go (inr s) = omega (arith, ap number_of s.0)
 
-  only_18 : ((n : ℕ) × (c.answer ≡ Refused No.Mark n)) ↔ (Roomy c × (opening meta file ≡ Check.Passed) × MarkFails c)
+  only_18 : ((n : ℕ) × (c.answer ≡ Refused No.Mark n)) ↔ (Roomy c × (opening meta file ≡ Passed) × MarkFails c)
   only_18 = (λ x. go (high No.Mark x.0 x.1 (omega arith)), λ x. (0, back x.0 x.1 x.2))
     where
-      back : Roomy c → opening meta file ≡ Check.Passed → MarkFails c → c.answer ≡ Refused No.Mark 0
+      back : Roomy c → opening meta file ≡ Passed → MarkFails c → c.answer ≡ Refused No.Mark 0
       back h e (inl m) = (ill_formed_18 h e m).0
       back h e (inr (path, l, d, t, f)) = (missing_18 path (record { roomy = h; opens = e; names = d }) l t f).0
 
-      go : (walk_check a ≡ Check.Refused No.Mark) ⊎ ((No.Mark ≡ No.Mark) × NotOnTrail) → Roomy c × (opening meta file ≡ Check.Passed) × MarkFails c
+      go : (walk_check a ≡ Err No.Mark) ⊎ ((No.Mark ≡ No.Mark) × NotOnTrail) → Roomy c × (opening meta file ≡ Passed) × MarkFails c
       go (inl e) = of (check_refused a No.Mark e (omega arith))
         where
-          of : ((No.Mark ≡ No.Room) × ShortRoom a) ⊎ ((No.Mark ≡ No.Mark) × IllFormed a) → Roomy c × (opening meta file ≡ Check.Passed) × MarkFails c
+          of : ((No.Mark ≡ No.Room) × ShortRoom a) ⊎ ((No.Mark ≡ No.Mark) × IllFormed a) → Roomy c × (opening meta file ≡ Passed) × MarkFails c
           of (inl s) = absurd (omega (arith, ap number_of s.0))
           of (inr s) = (s.1.enough, s.1.opens, inl s.1.ill)
       go (inr s) =
@@ -348,7 +348,7 @@ module _ {file : List ℕ} (c : Call file) where
           (told.0, told.1, inr (given_path a, s.1.all, told.2, s.1.whole, gone))
 
   pub outcomes : Outcomes c
-  unfolding first rule mark_after either
+  unfolding rule mark_after either
   outcomes = record {
     no_room = no_room_17;
     not_opened = λ h r e. one.not_begun r (roomy_check c h ∙ rw e);

@@ -1,5 +1,6 @@
 -- Every context's parent: a root has 0, and any other the place of one visited before it whose array of children holds it. By induction over
 -- the traversal: an array is that of the roots, or of the children of a context that was visited; by 7 it lies in the file.
+use Rattle.std.specs.Prelude.{Err}
 use Prim.Native.Nat.{ℕ, zero, suc, ◌+◌, ◌-◌, ◌≤◌, ◌<◌}
 use mathlib.Core.Bool.{Bool, true, false}
 use mathlib.Core.List.{List, [], ◌∷◌, append_cancel_left}
@@ -8,9 +9,7 @@ use mathlib.Core.Path.{◌≡◌, refl, sym, ap, ◌∙◌, subst}
 use native.Mathlib.Omega.{arith}
 use lib.Dec.{ltb}
 use lib.ListN.{length, length-append}
-use Rattle.refusal.specs.declared.Check.{Check}
-use Rattle.refusal.specs.declared.Check.TheVariants.{Passed, Refused}
-use Rattle.refusal.specs.Check.{if_passed}
+use Rattle.refusal.specs.Check.{if_passed, Check, Passed, on_answer}
 use Rattle.seq.specs.Lists.{All, In}
 use Rattle.seq.proofs.Lists.{all_imp, all_append, all_in, in_left, distinct_one}
 use Rattle.open.specs.Format.{meta}
@@ -218,7 +217,7 @@ module _ (E : Parameters) (section : E.targets.at + E.targets.size ≤ length E.
   unfolding enter
   traces_enter Passed true into l e h f = let r = f refl in (r.0, begins_trans l (snoc l e) (list_of (into (snoc l e))) (begins_snoc l e) r.1)
   traces_enter Passed false into l e h f = (h, begins_refl l)
-  traces_enter (Refused r) room into l e h f = (h, begins_refl l)
+  traces_enter (Err r) room into l e h f = (h, begins_refl l)
 
   traces_bind : (l : List Entry) (o : Outcome) (next : List Entry → Outcome) → Traced file l o
       → ((m : List Entry) → Begins l m → HaveFamilies file m → Traced file m (next m)) → Traced file l (bind o next)
@@ -256,7 +255,7 @@ module _ (E : Parameters) (section : E.targets.at + E.targets.size ≤ length E.
 
 -- of all on a file's trail
 have_families : (a : Asked) → HaveFamilies a.file (list_of (traversal a))
-unfolding traversal on_opened if_passed from_roots targets_of
+unfolding traversal on_opened on_answer from_roots targets_of
 have_families a = go (opening meta a.file) refl
   where
     E : Parameters
@@ -266,7 +265,7 @@ have_families a = go (opening meta a.file) refl
     go Passed e =
         (traces_level E (section_lies a.file e) (suc depth_limit) (root_family a.file) []
         (record { among = inl refl; lies = root_array_lies a.file e }) tt).0
-    go (Refused r) e = tt
+    go (Err r) e = tt
 
 module _ (a : Asked) where
   abbrev trail : List Entry

@@ -1,4 +1,5 @@
 -- The last word of a record is its context's parent, which is one: a path on the trail is that of one context, as a place is.
+use Rattle.std.specs.Prelude.{Err}
 use Prim.Native.Nat.{ℕ, ◌*◌, ◌<◌}
 use mathlib.Core.List.{List, [], ◌∷◌}
 use mathlib.Core.Logic.{◌↔◌, ◌⊎◌, inl, inr, ⊎_elim}
@@ -6,8 +7,7 @@ use mathlib.Core.Path.{◌≡◌, refl, sym, ap, ◌∙◌, subst}
 use native.Mathlib.Omega.{arith}
 use lib.ListN.{length, get_or, take, drop, length-append}
 use lib.Seq.{get_or-take, get_or-drop, take_at}
-use Rattle.refusal.specs.declared.Check.{Check}
-use Rattle.refusal.specs.Check.{if_passed}
+use Rattle.refusal.specs.Check.{if_passed, Check, on_answer, Passed}
 use Rattle.seq.specs.Lists.{In}
 use Rattle.seq.proofs.Lists.{in_none, in_take, in_drop, distinct_one}
 use Rattle.open.specs.Opening.{field}
@@ -47,13 +47,13 @@ module _ {file : List ℕ} (c : Call file) where
   -- ---- what is listed is on the trail
 
   trail_in : (e : Entry) → In e (list_of (trail_from (asked c))) → In e (contexts c)
-  unfolding trail_from if_passed after_mark
+  unfolding trail_from on_answer after_mark
   trail_in e h = go (walk_check (asked c)) h
     where
       go : (v : Check) → In e (list_of (if_passed (λ r. refused r []) v (from_mark (given_path (asked c)) (traversal (asked c))))) → In e (contexts c)
-      go Check.Passed k = in_drop (skipped (given_path (asked c)) (contexts c)) (contexts c)
+      go Passed k = in_drop (skipped (given_path (asked c)) (contexts c)) (contexts c)
           (subst (In e) (list_from (given_path (asked c)) (traversal (asked c))) k)
-      go (Check.Refused r) k = absurd (in_none k)
+      go (Err r) k = absurd (in_none k)
 
   recorded_on_trail : (n : ℕ) (e : Entry) → RecordOf c n e → In e (contexts c)
   recorded_on_trail n e h = trail_in e (in_take (listed_number c) (trail c) (h.before, h.after, h.lists))

@@ -1,5 +1,6 @@
 -- The paths of a traversal rise in preorder: a parent precedes its children, an elder sibling with all below it a younger one. So the marks
 -- of all contexts, and that before the first root, are distinct.
+use Rattle.refusal.specs.Check.{Passed}
 use Prim.Native.Nat.{ℕ, suc, ◌<◌}
 use mathlib.Core.List.{List, [], ◌∷◌, map-append}
 use mathlib.Core.Logic.{◌⊎◌, inl, inr}
@@ -7,7 +8,6 @@ use mathlib.Core.Path.{◌≡◌, refl, sym, ap, ◌∙◌, subst}
 use native.Mathlib.Omega.{arith}
 use Rattle.seq.specs.Lists.{All, Ordered, Differs, Distinct}
 use Rattle.seq.proofs.Lists.{all_imp, all_append, ordered_imp, ordered_snoc}
-use Rattle.refusal.specs.declared.Check.TheVariants.{Passed}
 use Rattle.context.specs.Entry.{Entry, entry_at}
 use Rattle.open.specs.Format.{meta}
 use Rattle.open.specs.Opening.{pairs}

@@ -1,4 +1,5 @@
 -- Which refusals end a traversal: those of opening, 1 to 7, and those of a visit, up to 14. So 17 and 18 come from the mark rules alone.
+use Rattle.std.specs.Prelude.{Err}
 use Prim.Native.Nat.{ℕ, zero, suc, ◌+◌, ◌-◌, ◌≤◌}
 use mathlib.Core.Bool.{Bool, true, false, not}
 use mathlib.Core.List.{List, []}
@@ -8,9 +9,7 @@ use lib.Dec.{ltb, leb}
 use lib.ListN.{length}
 use Rattle.refusal.specs.declared.Refusal.{Refusal}
 use Rattle.refusal.specs.declared.Refusal.TheVariants as No
-use Rattle.refusal.specs.declared.Check.{Check}
-use Rattle.refusal.specs.declared.Check.TheVariants.{Passed, Refused}
-use Rattle.refusal.specs.Check.{rule, first, if_passed}
+use Rattle.refusal.specs.Check.{rule, first, if_passed, Check, Passed, on_answer}
 use Rattle.refusal.specs.Number.{number_of}
 use Rattle.open.specs.Format.{meta}
 use Rattle.open.specs.Opening.{field, opening, pairs, on_opened}
@@ -22,7 +21,7 @@ use Rattle.traversal.specs.Traversal.{Asked, Outcome, on, cut, refused, Paramete
 -- an end by no refusal above 14
 abbrev Low : Check → Type 0
 Low Passed = Unit
-Low (Refused r) = number_of r ≤ 14
+Low (Err r) = number_of r ≤ 14
 
 abbrev LowEnd : Outcome → Type 0
 LowEnd (on l) = Unit
@@ -35,9 +34,8 @@ rule_low true r h = tt
 rule_low false r h = h
 
 first_low : (a b : Check) → Low a → Low b → Low (first a b)
-unfolding first
 first_low Passed b h k = k
-first_low (Refused r) b h k = h
+first_low (Err r) b h k = h
 
 module _ (E : Parameters) where
   visit_low : (path : List ℕ) (p stop : ℕ) (l : List Entry) → Low (visit_check E path p stop l)
@@ -57,7 +55,7 @@ module _ (E : Parameters) where
   unfolding enter
   enter_low Passed true into l e h f = f _
   enter_low Passed false into l e h f = tt
-  enter_low (Refused r) room into l e h f = h
+  enter_low (Err r) room into l e h f = h
 
   bind_low : (o : Outcome) (next : List Entry → Outcome) → LowEnd o → ((m : List Entry) → LowEnd (next m)) → LowEnd (bind o next)
   unfolding bind
@@ -93,7 +91,7 @@ module _ (E : Parameters) where
   level_low (suc levels) parent ups from stop l = siblings_low (level E levels) (level_low levels) parent ups (stop - from) 0 from stop l
 
 pub traversal_low : (a : Asked) (r : Refusal) (l : List Entry) → traversal a ≡ refused r l → number_of r ≤ 14
-unfolding traversal on_opened if_passed from_roots
+unfolding traversal on_opened on_answer from_roots
 traversal_low a r l e = rw e at (go (opening meta a.file) refl)
   where
     E : Parameters
@@ -101,4 +99,4 @@ traversal_low a r l e = rw e at (go (opening meta a.file) refl)
 
     go : (v : Check) → opening meta a.file ≡ v → LowEnd (if_passed (λ r. refused r []) v (from_roots E))
     go Passed z = level_low E (suc depth_limit) 0 [] _ _ []
-    go (Refused s) z = omega (arith, one_to_seven meta a.file s z)
+    go (Err s) z = omega (arith, one_to_seven meta a.file s z)

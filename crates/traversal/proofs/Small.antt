@@ -1,5 +1,6 @@
 -- Of a file of bytes: ctxIds are below 2^32 and distinct, so there are at most 2^32 contexts; and a sibling's number is at most the number
 -- of contexts before it, since its elder siblings are among them. So every path can be a mark's.
+use Rattle.refusal.specs.Check.{Passed}
 use Prim.Native.Nat.{ℕ, suc, ◌+◌, ◌≤◌, ◌<◌}
 use mathlib.Core.List.{List, [], ◌∷◌, map, map-append}
 use mathlib.Core.Path.{◌≡◌, ◌∙◌}
@@ -10,7 +11,6 @@ use Rattle.seq.specs.Lists.{All, Below}
 use Rattle.seq.proofs.Lists.{all_imp, all_append, all_left, all_right}
 use Rattle.seq.proofs.Pigeon.{pigeonhole}
 use Rattle.layout.specs.Octets.{Octets}
-use Rattle.refusal.specs.declared.Check.TheVariants.{Passed}
 use Rattle.open.specs.Opening.{field, pairs}
 use Rattle.mark.specs.Mark.{Encodable}
 use Rattle.context.specs.Context.{Targets, ctx_id, targets_of}

@@ -1,4 +1,5 @@
 -- The definitions of the traversal, a step at a time; an array of contexts is its first context, and then the rest.
+use Rattle.std.specs.Prelude.{Err}
 use Prim.Native.Nat.{ℕ, zero, suc, ◌+◌, ◌-◌, ◌≤◌, ◌<◌}
 use mathlib.Core.Bool.{true, false}
 use mathlib.Core.List.{List, [], ◌∷◌, ◌++◌}
@@ -8,8 +9,7 @@ use native.Mathlib.Omega.{arith}
 use borrow.Author.Tests.{lt-ltb, le-ltb}
 use Rattle.refusal.specs.declared.Refusal.{Refusal}
 use Rattle.refusal.specs.declared.Refusal.TheVariants as No
-use Rattle.refusal.specs.declared.Check.TheVariants.{Passed, Refused}
-use Rattle.refusal.specs.Check.{rule, first}
+use Rattle.refusal.specs.Check.{rule, Passed}
 use Rattle.open.specs.Opening.{field}
 use Rattle.context.specs.Context.{children_place, children_end, extent, context_rule}
 use Rattle.context.specs.Entry.{Entry, entry_at}
@@ -71,12 +71,12 @@ module _ (E : Parameters) (down : Down) (parent : ℕ) (ups : List ℕ) where
 -- ---- a visit, by what its check says and whether there is room
 
 module _ (E : Parameters) (down : Down) (parent : ℕ) (path : List ℕ) (p stop : ℕ) (l : List Entry) where
-  pub visit_refused : (r : Refusal) → visit_check E path p stop l ≡ Refused r → visit E down parent path p stop l ≡ refused r l
+  pub visit_refused : (r : Refusal) → visit_check E path p stop l ≡ Err r → visit E down parent path p stop l ≡ refused r l
   unfolding visit enter
   visit_refused r e = rw e
 
   pub visit_10 : context_rule E.asked.file p stop ≡ false → visit E down parent path p stop l ≡ refused No.Context l
-  unfolding visit_check first rule
+  unfolding visit_check rule
   visit_10 e = visit_refused No.Context (rw e)
 
   pub visit_cut : visit_check E path p stop l ≡ Passed → E.free l ≡ false → visit E down parent path p stop l ≡ cut l

@@ -1,14 +1,13 @@
 -- The trail is one for a file and a table's length: marks, and how long the listing is, do not count. So it is from each mark, where the
 -- room for a new one is the same or none is asked for.
+use Rattle.std.specs.Prelude.{Err}
 use Prim.Native.Nat.{ℕ}
 use mathlib.Core.Bool.{Bool, true, false, ◌||◌, not}
 use mathlib.Core.List.{List, [], ◌∷◌, ◌++◌}
 use mathlib.Core.Path.{◌≡◌, refl, ap, ap₂, ◌∙◌}
 use lib.Dec.{leb}
 use Rattle.refusal.specs.declared.Refusal.TheVariants as No
-use Rattle.refusal.specs.declared.Check.{Check}
-use Rattle.refusal.specs.declared.Check.TheVariants.{Passed, Refused}
-use Rattle.refusal.specs.Check.{rule, first, if_passed}
+use Rattle.refusal.specs.Check.{rule, first, if_passed, Check, Passed, on_answer}
 use Rattle.open.specs.Format.{meta}
 use Rattle.open.specs.Opening.{opening, pairs, on_opened}
 use Rattle.mark.specs.Mark.{mark_room, Decoded, decode, is_named, path_in}
@@ -24,7 +23,7 @@ same_enter : (v : Check) (K K' : List Entry → Outcome) (l : List Entry) (x : E
     → enter v true K l x ≡ enter v true K' l x
 unfolding enter
 same_enter Passed K K' l x h = h
-same_enter (Refused r) K K' l x h = refl
+same_enter (Err r) K K' l x h = refl
 
 module _ (file : List ℕ) (m m' : Marks) (t : Targets) (n n' : Lengths) (e : n.slots ≡ n'.slots) where
   same_check : (path : List ℕ) (p stop : ℕ) (l : List Entry)
@@ -44,7 +43,7 @@ module _ (file : List ℕ) (m m' : Marks) (t : Targets) (n n' : Lengths) (e : n.
       }) levels parent path from stop l tt
 
 pub trail_same : (file : List ℕ) (m m' : Marks) (n n' : Lengths) → n.slots ≡ n'.slots → traversal (ask file m n) ≡ traversal (ask file m' n')
-unfolding traversal on_opened from_roots if_passed
+unfolding traversal on_opened from_roots on_answer
 trail_same file m m' n n' e = go (opening meta file)
   where
     t : Targets
@@ -53,7 +52,7 @@ trail_same file m m' n n' e = go (opening meta file)
     go : (v : Check)
         → if_passed (λ r. refused r []) v (from_roots (endless (ask file m n) t)) ≡ if_passed (λ r. refused r []) v (from_roots (endless (ask file m' n') t))
     go Passed = same_level file m m' t n n' e _ 0 [] _ _ []
-    go (Refused r) = refl
+    go (Err r) = refl
 
 -- ---- from a mark
 

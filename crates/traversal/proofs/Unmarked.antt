@@ -1,11 +1,11 @@
 -- A walk without a mark, with none asked for, is the traversal truncated to the listing's words: no mark is that of depth 0, which is always
 -- passed and passes over nothing. So it has reached what it lists.
+use Rattle.std.specs.Prelude.{Err}
 use Prim.Native.Nat.{ℕ}
 use mathlib.Core.List.{List, [], ◌++◌}
 use mathlib.Core.Path.{◌≡◌, refl, sym, ap, ◌∙◌}
 use lib.ListN.{length, take}
-use Rattle.refusal.specs.declared.Check.{Check}
-use Rattle.refusal.specs.Check.{either, rule, first, if_passed}
+use Rattle.refusal.specs.Check.{either, rule, if_passed, Check, on_answer, Passed}
 use Rattle.refusal.proofs.Checks.{first_passed}
 use Rattle.open.specs.Format.{meta}
 use Rattle.open.specs.Opening.{opening, pairs, on_opened}
@@ -27,16 +27,16 @@ module _ (file : List ℕ) (n : Lengths) where
   a = ask file unmarked n
 
   pub unmarked_check : walk_check a ≡ opening meta file
-  unfolding walk_check rule first decode is_named
+  unfolding walk_check rule decode is_named
   unmarked_check = first_passed (opening meta file)
 
   unmarked_trail : trail_from a ≡ traversal a
-  unfolding trail_from traversal on_opened if_passed decode path_in
+  unfolding trail_from traversal on_opened on_answer decode path_in
   unmarked_trail = rw (unmarked_check, from_root (traversal a)) (go (opening meta file) (from_roots (endless a (targets_of file (pairs meta file)))))
     where
       go : (v : Check) (o : Outcome) → if_passed (λ r. refused r []) v (if_passed (λ r. refused r []) v o) ≡ if_passed (λ r. refused r []) v o
-      go Check.Passed o = refl
-      go (Check.Refused r) o = refl
+      go Passed o = refl
+      go (Err r) o = refl
 
   pub unmarked_walk : walk_of a ≡ truncate n.words (traversal a)
   unfolding walk_of
@@ -46,7 +46,7 @@ module _ (file : List ℕ) (n : Lengths) where
   pub unmarked_whole : (l : List Entry) → walk_of a ≡ on l → traversal a ≡ on l
   unmarked_whole l e = truncate_whole n.words (traversal a) l (sym unmarked_walk ∙ e)
 
-  pub unmarked_reached : opening meta file ≡ Check.Passed → reached a ≡ list_of (walk_of a)
+  pub unmarked_reached : opening meta file ≡ Passed → reached a ≡ list_of (walk_of a)
   unfolding decode path_in
   unmarked_reached h =
       let l : List Entry = list_of (traversal a) in
@@ -58,13 +58,13 @@ module _ (file : List ℕ) (n : Lengths) where
   unmarked_mark was = refl
 
   pub unmarked_table : (was : List ℕ) → table_after a was ≡ on_opened (λ r. was) meta file (λ ps. table_with (list_of (walk_of a)) (length was))
-  unfolding table_after on_opened if_passed
+  unfolding table_after on_opened on_answer
   unmarked_table was = rw unmarked_check (go (opening meta file) refl)
     where
       go : (v : Check) → opening meta file ≡ v
           → if_passed (λ r. was) v (table_with (reached a) (length was)) ≡ if_passed (λ r. was) v (table_with (list_of (walk_of a)) (length was))
-      go Check.Passed e = ap (λ (l : List Entry). table_with l (length was)) (unmarked_reached e)
-      go (Check.Refused r) e = refl
+      go Passed e = ap (λ (l : List Entry). table_with l (length was)) (unmarked_reached e)
+      go (Err r) e = refl
 
 -- ---- without lent memory that such a walk leaves alone
 

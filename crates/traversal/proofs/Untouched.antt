@@ -1,4 +1,5 @@
 -- Where nothing is listed, listing and records are as they were; and so is all that is lent, where a walk is refused before the trail.
+use Rattle.std.specs.Prelude.{Err}
 use Prim.Native.Nat.{ℕ, ◌/◌}
 use mathlib.Core.Bool.{and-false}
 use mathlib.Core.List.{List, []}
@@ -7,8 +8,7 @@ use native.Mathlib.Omega.{arith}
 use lib.ListN.{length, take}
 use lib.Seq.{take-nil}
 use Rattle.refusal.specs.declared.Refusal.{Refusal}
-use Rattle.refusal.specs.declared.Check.TheVariants as Check
-use Rattle.refusal.specs.Check.{either, if_passed}
+use Rattle.refusal.specs.Check.{either, on_answer}
 use Rattle.buffer.proofs.Laws.{over_none, length_over}
 use Rattle.context.specs.Entry.{Entry, words_each}
 use Rattle.traversal.specs.declared.Walked.TheVariants.{Refused}
@@ -29,9 +29,9 @@ pub length_records : (was : List ℕ) (l : List Entry) → length (records_with 
 unfolding records_with
 length_records was l = length_over was 0 (words_of (take (length was / words_each) l))
 
-pub refused_untouched : (file : List ℕ) (m : Marks) (was : Slices) (r : Refusal) → walk_check (ask_with file m was) ≡ Check.Refused r
+pub refused_untouched : (file : List ℕ) (m : Marks) (was : Slices) (r : Refusal) → walk_check (ask_with file m was) ≡ Err r
     → LeavesFrom itself file m was (Refused r 0) was
-unfolding walk_of trail_from table_after mark_after mark_passed if_passed walked_of either
+unfolding walk_of trail_from table_after mark_after mark_passed on_answer walked_of either
 refused_untouched file m was r e =
     let none : walk_of (ask_with file m was) ≡ refused r [] = rw e (truncate_short (length was.listing) (refused r []) (omega arith)) in
     record {

@@ -9,8 +9,7 @@ use borrow.Author.Tests.{leb-true, leb-false, le-leb}
 use lib.Dec.{leb}
 use lib.ListN.{length, take, drop, length-take, take-append-drop}
 use lib.Seq.{take_all, take-add, drop_at, length-take-le}
-use Rattle.refusal.specs.declared.Check.TheVariants as Check
-use Rattle.refusal.specs.Check.{either, if_passed}
+use Rattle.refusal.specs.Check.{either, on_answer, Passed}
 use Rattle.open.specs.Format.{meta}
 use Rattle.open.specs.Opening.{pairs, on_opened}
 use Rattle.context.specs.Context.{targets_of}
@@ -120,7 +119,7 @@ pub record VisitedBy (a : Asked) (v : Outcome) : Type 0 where
   pub path : is_passed (given_path a) (list_of v) ≡ true → new_path a ≡ last_path [] (list_of v)
   pub empty : is_passed (given_path a) (list_of v) ≡ false → reached a ≡ []
 
-module _ (a : Asked) (check : walk_check a ≡ Check.Passed) where
+module _ (a : Asked) (check : walk_check a ≡ Passed) where
   abbrev p : List ℕ
   p = given_path a
 
@@ -135,7 +134,7 @@ module _ (a : Asked) (check : walk_check a ≡ Check.Passed) where
 
   -- as long as there is room
   as_room : from_roots (limited_from p a (targets_of a.file (pairs meta a.file))) ≡ visits
-  unfolding from_roots traversal on_opened if_passed marks_from
+  unfolding from_roots traversal on_opened on_answer marks_from
   as_room = rw (check_told a check).1
       (cuts_after p words a (targets_of a.file (pairs meta a.file)) (λ m. leb (marks_from p m) words) (λ m. refl) (suc depth_limit) 0 [] _ _ []
       (omega arith))
@@ -154,7 +153,7 @@ module _ (a : Asked) (check : walk_check a ≡ Check.Passed) where
       ∙ sym (last_append [] (up_to_mark p whole) (list_of (walk_of a))) ∙ ap (last_path []) (all_visited h)
 
   visits_by : VisitedBy a visits
-  unfolding outcome_from mark_passed if_passed
+  unfolding outcome_from mark_passed on_answer
   visits_by =
       let same = passing_after p words (traversal a) in
       record {
@@ -165,6 +164,6 @@ module _ (a : Asked) (check : walk_check a ≡ Check.Passed) where
         empty = λ h. reached_unpassed a check (same ∙ h);
       }
 
-pub visited : (a : Asked) → walk_check a ≡ Check.Passed
+pub visited : (a : Asked) → walk_check a ≡ Passed
     → VisitedBy a (from_roots (limited_from (given_path a) a (targets_of a.file (pairs meta a.file))))
 visited a check = subst (VisitedBy a) (sym (as_room a check)) (visits_by a check)

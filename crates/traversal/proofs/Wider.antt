@@ -1,4 +1,5 @@
 -- With a longer table a traversal is the same, unless the shorter one ended for want of room: then the longer one goes on from there.
+use Rattle.std.specs.Prelude.{Err}
 use Prim.Native.Nat.{ℕ, ◌≤◌}
 use mathlib.Core.Bool.{Bool, true, false, not}
 use mathlib.Core.List.{List, [], ◌∷◌, ◌++◌}
@@ -10,9 +11,7 @@ use lib.Dec.{ltb, leb}
 use lib.ListN.{length}
 use Rattle.refusal.specs.declared.Refusal.{Refusal}
 use Rattle.refusal.specs.declared.Refusal.TheVariants as No
-use Rattle.refusal.specs.declared.Check.{Check}
-use Rattle.refusal.specs.declared.Check.TheVariants.{Passed, Refused}
-use Rattle.refusal.specs.Check.{rule, first, if_passed}
+use Rattle.refusal.specs.Check.{rule, first, if_passed, Check, Passed, on_answer}
 use Rattle.open.specs.Format.{meta}
 use Rattle.open.specs.Opening.{field, opening, pairs, on_opened}
 use Rattle.context.specs.Context.{Targets, ctx_id, context_rule, links_rule, children_rule, targets_of}
@@ -29,15 +28,14 @@ use Rattle.traversal.proofs.Alike.{always, left, right, alike_level}
 -- ---- checks that more room changes only where room is wanting
 
 abbrev Same : Check → Check → Type 0
-Same v v' = (v ≡ v') ⊎ ((r : Refusal) × (WantsRoom r × (v ≡ Refused r)))
+Same v v' = (v ≡ v') ⊎ ((r : Refusal) × (WantsRoom r × (v ≡ Err r)))
 
 same_first : (a v v' : Check) → Same v v' → Same (first a v) (first a v')
-unfolding first
 same_first Passed v v' h = h
-same_first (Refused r) v v' h = inl refl
+same_first (Err r) v v' h = inl refl
 
 same_slot : (i i' : Bool) (c : Check) → (i ≡ true → i' ≡ true) → Same (first (rule i No.Slot) c) (first (rule i' No.Slot) c)
-unfolding first rule
+unfolding rule
 same_slot true i' c h = inl (rw (h refl))
 same_slot false i' c h = inr (No.Slot, (refl, refl))
 
@@ -62,7 +60,7 @@ module _ (K K' : List Entry → Outcome) (l : List Entry) (x : Entry) (g : Grows
   grows_enter : (v : Check) → Begins l (list_of (enter v true K' l x))
   unfolding enter
   grows_enter Passed = begins_trans l (l ++ (x ∷ [])) _ (begins_snoc l x) (g (l ++ (x ∷ [])))
-  grows_enter (Refused r) = begins_refl l
+  grows_enter (Err r) = begins_refl l
 
   wider_enter : (v v' : Check) → ((l : List Entry) → Wider (K l) (K' l)) → Same v v' → Wider (enter v true K l x) (enter v' true K' l x)
   unfolding enter
@@ -70,7 +68,7 @@ module _ (K K' : List Entry → Outcome) (l : List Entry) (x : Entry) (g : Grows
     where
       go : (v : Check) → Wider (enter v true K l x) (enter v true K' l x)
       go Passed = k (l ++ (x ∷ []))
-      go (Refused r) = inl refl
+      go (Err r) = inl refl
   wider_enter v v' k (inr s) = inr (s.0, l, s.1.0, rw s.1.1, grows_enter v')
 
 module _ (file : List ℕ) (m : Marks) (t : Targets) (n n' : Lengths) (le : n.slots ≤ n'.slots) where
@@ -99,7 +97,7 @@ module _ (file : List ℕ) (m : Marks) (t : Targets) (n n' : Lengths) (le : n.sl
 -- with a table at least as long
 pub wider_traversal : (file : List ℕ) (m : Marks) (n n' : Lengths) → n.slots ≤ n'.slots
     → Wider (traversal (ask file m n)) (traversal (ask file m n'))
-unfolding traversal on_opened from_roots if_passed
+unfolding traversal on_opened from_roots on_answer
 wider_traversal file m n n' le = go (opening meta file)
   where
     t : Targets
@@ -108,7 +106,7 @@ wider_traversal file m n n' le = go (opening meta file)
     go : (v : Check)
         → Wider (if_passed (λ r. refused r []) v (from_roots (endless (ask file m n) t))) (if_passed (λ r. refused r []) v (from_roots (endless (ask file m n') t)))
     go Passed = wider_level file m t n n' le _ 0 [] _ _ []
-    go (Refused r) = inl refl
+    go (Err r) = inl refl
 
 pub wider_begins : (o o' : Outcome) → Wider o o' → Begins (list_of o) (list_of o')
 wider_begins o o' (inl e) = subst (λ (x : Outcome). Begins (list_of o) (list_of x)) e (begins_refl (list_of o))

@@ -1,10 +1,10 @@
 -- Demand 3, "one claim about any two such walks": of any one walk, and of any two of the same bytes. "Demand 3 then reads for each mark,
 -- over the trail from just after it": `trail_from`, which for no mark is the trail. By request 2026-07 it reads over records too, as they are
 -- handed out: as far as there is room for whole ones.
-use Rattle.std.specs.Prelude.{ℕ, ◌*◌, ◌/◌, ◌≤◌, ◌<◌, min, true, false, List, [], ◌∷◌, ◌++◌, map, ◌↔◌, ◌≡◌, refl, length, get_or, take, drop}
+use Rattle.refusal.specs.Check.{Passed}
+use Rattle.std.specs.Prelude.{ℕ, ◌*◌, ◌/◌, ◌≤◌, ◌<◌, min, true, false, List, [], ◌∷◌, ◌++◌, map, ◌↔◌, ◌≡◌, refl, length, get_or, take, drop, Err}
 use Rattle.refusal.specs.declared.Refusal.{Refusal}
 use Rattle.refusal.specs.declared.Refusal.TheVariants as No
-use Rattle.refusal.specs.declared.Check.TheVariants as Check
 use Rattle.seq.specs.Lists.{In}
 use Rattle.mark.specs.Mark.{decode}
 use Rattle.context.specs.Entry.{Entry, entry_words, words_each}
@@ -90,19 +90,19 @@ pub record OneWalk {file : List ℕ} (c : Call file) : Type 0 where
   -- "otherwise it gives the trail's end"
   pub gives_end : length (trail c) ≤ length c.was.listing → c.answer ≡ walked_of (trail_from (asked c))
   -- "The table is 0 except that slot ctxId of each listed context holds its place": of each "up to that new mark"
-  pub slot : walk_check (asked c) ≡ Check.Passed → (e : Entry) → In e (reached (asked c)) → get_or c.now.table e.ctx_id 0 ≡ e.place
-  pub no_slot : walk_check (asked c) ≡ Check.Passed → (i : ℕ) → ((e : Entry) → In e (reached (asked c)) → e.ctx_id ≡ i → ⊥)
+  pub slot : walk_check (asked c) ≡ Passed → (e : Entry) → In e (reached (asked c)) → get_or c.now.table e.ctx_id 0 ≡ e.place
+  pub no_slot : walk_check (asked c) ≡ Passed → (i : ℕ) → ((e : Entry) → In e (reached (asked c)) → e.ctx_id ≡ i → ⊥)
       → get_or c.now.table i 0 ≡ 0
   pub slots : length c.now.table ≡ length c.was.table
   -- those passed over, up to the mark given, and those listed; none where the mark was not passed
   pub up_to : mark_passed (asked c) ≡ true → reached (asked c) ≡ up_to_mark (given_path (asked c)) (list_of (traversal (asked c))) ++ listed c
-  pub none : walk_check (asked c) ≡ Check.Passed → mark_passed (asked c) ≡ false → reached (asked c) ≡ []
+  pub none : walk_check (asked c) ≡ Passed → mark_passed (asked c) ≡ false → reached (asked c) ≡ []
   -- "Every context record handed out by a walk": those of the first contexts listed, as many whole ones as there is room for, word for word
   pub each_record : (n : ℕ) → n < record_number c → (e : Entry) × RecordOf c n e
   pub record_is : (n : ℕ) (e : Entry) → RecordOf c n e → take words_each (drop (n * words_each) c.now.records) ≡ entry_words e
   pub beyond_records : drop (record_number c * words_each) c.now.records ≡ drop (record_number c * words_each) c.was.records
   -- "If opening refuses, 0 are listed and neither slice changes." So it is with the mark rules that stand before the trail.
-  pub not_begun : (r : Refusal) → walk_check (asked c) ≡ Check.Refused r → Untouched c r
+  pub not_begun : (r : Refusal) → walk_check (asked c) ≡ Err r → Untouched c r
 
 -- ---- of two
 

@@ -1,9 +1,9 @@
 -- Going on from a mark, in facts: each outcome of a walk from a mark with all that it leaves, and parts that joined equal one walk.
-use Rattle.std.specs.Prelude.{ℕ, ◌+◌, ◌*◌, ◌≤◌, ◌<◌, true, false, List, [], ◌∷◌, ◌++◌, map, ◌↔◌, ◌⊎◌, ◌≡◌, length, take, drop, replicate}
+use Rattle.refusal.specs.Check.{Passed}
+use Rattle.std.specs.Prelude.{ℕ, ◌+◌, ◌*◌, ◌≤◌, ◌<◌, true, false, List, [], ◌∷◌, ◌++◌, map, ◌↔◌, ◌⊎◌, ◌≡◌, length, take, drop, replicate, Err}
 use Rattle.le.specs.Number.{number}
 use Rattle.refusal.specs.declared.Refusal.{Refusal}
 use Rattle.refusal.specs.declared.Refusal.TheVariants as No
-use Rattle.refusal.specs.declared.Check.TheVariants as Check
 use Rattle.open.specs.Format.{meta}
 use Rattle.open.specs.Opening.{opening}
 use Rattle.layout.specs.Octets.{Octets}
@@ -29,7 +29,7 @@ module _ {file : List ℕ} (c : Call file) where
   -- past the rules that stand before the trail, from the mark that names a path
   pub record Begun (path : List ℕ) : Type 0 where
     pub roomy : Roomy
-    pub opens : opening meta file ≡ Check.Passed
+    pub opens : opening meta file ≡ Passed
     pub names : decode c.marks.given ≡ named path
 
   -- refused, "the table is 0, the listing is untouched", and no new mark
@@ -57,9 +57,9 @@ module _ {file : List ℕ} (c : Call file) where
   pub record Outcomes : Type 0 where
     -- "17 before opening, if fewer than 805 bytes are lent for the new mark"
     pub no_room : c.marks.asks ≡ true → length c.was.mark < 805 → Untouched c No.Room
-    pub not_opened : Roomy → (r : Refusal) → opening meta file ≡ Check.Refused r → Untouched c r
+    pub not_opened : Roomy → (r : Refusal) → opening meta file ≡ Err r → Untouched c r
     -- "18 Mark, if the mark is malformed (after opening, both slices untouched)"
-    pub ill_formed : Roomy → opening meta file ≡ Check.Passed → decode c.marks.given ≡ malformed → Untouched c No.Mark
+    pub ill_formed : Roomy → opening meta file ≡ Passed → decode c.marks.given ≡ malformed → Untouched c No.Mark
     -- "or if the trail ends whole without passing the context it names"
     pub missing : (path : List ℕ) → Begun path → (l : List Entry) → traversal (asked c) ≡ on l → (OnTrail path l → ⊥) → Cleared No.Mark
     -- "if the trail ends in a refusal before passing it, that refusal stands with 0 listed"
@@ -67,7 +67,7 @@ module _ {file : List ℕ} (c : Call file) where
         → (OnTrail path l → ⊥) → Cleared r
     -- 17 and 18 for nothing else
     pub says_17 : ((n : ℕ) × (c.answer ≡ Refused No.Room n)) ↔ ((c.marks.asks ≡ true) × (length c.was.mark < 805))
-    pub says_18 : ((n : ℕ) × (c.answer ≡ Refused No.Mark n)) ↔ (Roomy × (opening meta file ≡ Check.Passed) × MarkFails)
+    pub says_18 : ((n : ℕ) × (c.answer ≡ Refused No.Mark n)) ↔ (Roomy × (opening meta file ≡ Passed) × MarkFails)
     -- a walk reads no string
     pub never_19 : (n : ℕ) → c.answer ≡ Refused No.Spelling n → ⊥
     -- "fills the table afresh for everything up to that new mark, and lists from just after the mark": from depth 0 the whole trail, and else
@@ -168,7 +168,7 @@ pub record Joined {file : List ℕ} (c : Call file) (ds : List (Call file)) (who
   pub records : AllRecorded c ds → record_words whole ≡ take (record_room whole * words_each) (joined_records c ds)
   pub records_of_each : RecordsFrom whole 0 c ds
   pub ends : whole.answer ≡ with_number (last_part c ds).answer (joined_number c ds)
-  pub table : walk_check (asked whole) ≡ Check.Passed → whole.now.table ≡ (last_part c ds).now.table
+  pub table : walk_check (asked whole) ≡ Passed → whole.now.table ≡ (last_part c ds).now.table
   -- where both ask for one and the mark is passed
   pub mark : whole.marks.asks ≡ true → (last_part c ds).marks.asks ≡ true → mark_passed (asked whole) ≡ true → handed whole ≡ handed (last_part c ds)
 

@@ -1,10 +1,8 @@
 -- The traversal of a file's contexts in preorder: document 01's trail.
-use Rattle.std.specs.Prelude.{ℕ, zero, suc, ◌+◌, ◌-◌, Bool, true, false, ◌||◌, not, List, [], ◌∷◌, ◌++◌, ltb, leb, eqb, length}
+use Rattle.std.specs.Prelude.{ℕ, zero, suc, ◌+◌, ◌-◌, Bool, true, false, ◌||◌, not, List, [], ◌∷◌, ◌++◌, ltb, leb, eqb, length, Err}
 use Rattle.refusal.specs.declared.Refusal.{Refusal}
 use Rattle.refusal.specs.declared.Refusal.TheVariants as No
-use Rattle.refusal.specs.declared.Check.{Check}
-use Rattle.refusal.specs.declared.Check.TheVariants.{Passed, Refused}
-use Rattle.refusal.specs.Check.{rule, first}
+use Rattle.refusal.specs.Check.{rule, first, Check, Passed}
 use Rattle.open.specs.Format.{meta, u64}
 use Rattle.open.specs.Opening.{field, on_opened}
 use Rattle.context.specs.Context.{Targets, children_place, ctx_id, extent, children_end, context_rule, links_rule, children_rule, targets_of}
@@ -87,7 +85,7 @@ visit_check E path p stop l =
 unfoldable pub enter : Check → (room : Bool) → (into : List Entry → Outcome) → List Entry → Entry → Outcome
 enter Passed true into l e = into (l ++ (e ∷ []))
 enter Passed false into l e = cut l
-enter (Refused r) room into l e = refused r l
+enter (Err r) room into l e = refused r l
 
 -- ---- contexts and arrays of contexts
 

@@ -1,8 +1,7 @@
 -- A walk: as much of the traversal from a mark on as a listing has room for, and what it leaves in lent slices.
 use Rattle.std.specs.Prelude.{ℕ, ◌/◌, Bool, false, ◌&&◌, ◌||◌, not, List, [], ◌∷◌, ◌++◌, map, ◌≡◌, leb, length, take, set, replicate}
 use Rattle.refusal.specs.declared.Refusal.TheVariants as No
-use Rattle.refusal.specs.declared.Check.{Check}
-use Rattle.refusal.specs.Check.{either, rule, first, if_passed}
+use Rattle.refusal.specs.Check.{either, rule, first, if_passed, Check}
 use Rattle.refusal.specs.Number.{number_of}
 use Rattle.buffer.specs.Over.{over}
 use Rattle.open.specs.Format.{meta}

@@ -1,4 +1,6 @@
 -- Cases, computed: which bytes are UTF-8, what stands before a NUL, and the RFC's own examples as encodings.
+use Rattle.std.specs.Prelude.{Ok, Result, Err, ℕ}
+use Rattle.utf8.specs.declared.Fault.{Fault}
 use mathlib.Core.Bool.{Bool, true, false}
 use mathlib.Core.List.{List, [], ◌∷◌}
 use mathlib.Core.Path.{◌≡◌, refl}
@@ -7,8 +9,7 @@ use Rattle.scan.specs.Until.{until}
 use Rattle.utf8.specs.Grammar.{in_range, in_ranges, size_if, char_size, only_chars, is_utf8}
 use Rattle.utf8.specs.Encoding.{encoding, encodings}
 use Rattle.utf8.specs.Terminated.{before_nul, terminated}
-use Rattle.utf8.specs.declared.Utf8.{Utf8}
-use Rattle.utf8.specs.declared.Utf8.TheVariants.{Valid, Invalid, Unterminated}
+use Rattle.utf8.specs.declared.Fault.TheVariants.{Invalid, Unterminated}
 
 abbrev accepted : List Bool
 accepted =
@@ -39,11 +40,11 @@ unfolding is_utf8 only_chars char_size size_if in_ranges in_range either
 rejects = refl
 
 -- cut by the NUL; sound, with another byte behind the NUL; no NUL
-abbrev strings : List Utf8
+abbrev strings : List (Result ℕ Fault)
 strings =
     terminated (0xE2 ∷ 0x82 ∷ 0x00 ∷ 0x41 ∷ []) ∷ terminated (0xC3 ∷ 0xA9 ∷ 0x00 ∷ 0xFF ∷ []) ∷ terminated (0xFF ∷ 0x41 ∷ []) ∷ []
 
-ends : strings ≡ Invalid ∷ Valid 2 ∷ Unterminated ∷ []
+ends : strings ≡ Err Invalid ∷ Ok 2 ∷ (Err Unterminated) ∷ []
 unfolding terminated before_nul until is_utf8 only_chars char_size size_if in_ranges in_range either
 ends = refl
 

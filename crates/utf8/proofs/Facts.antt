@@ -1,4 +1,5 @@
 -- The string that the first NUL ends, by plain facts: where the NUL is, and whether the bytes before it are the encodings of code points.
+use Rattle.std.specs.Prelude.{Ok, Err}
 use Prim.Native.Nat.{ℕ, ◌≤◌}
 use mathlib.Core.Bool.{Bool, true, false, true≢false}
 use mathlib.Core.List.{List}
@@ -15,7 +16,7 @@ use Rattle.scan.proofs.Facts.{until_iff}
 use Rattle.utf8.specs.Grammar.{is_utf8}
 use Rattle.utf8.specs.Encoding.{Encoded}
 use Rattle.utf8.specs.Terminated.{before_nul, terminated}
-use Rattle.utf8.specs.declared.Utf8.TheVariants.{Valid, Invalid, Unterminated}
+use Rattle.utf8.specs.declared.Fault.TheVariants.{Invalid, Unterminated}
 use Rattle.utf8.proofs.Encoding.{utf8_iff}
 
 not_encoded_iff : (bytes : List ℕ) → (is_utf8 bytes ≡ false) ↔ (Encoded bytes → ⊥)
@@ -26,19 +27,19 @@ not_encoded_iff bytes = (λ e h. true≢false (sym ((utf8_iff bytes).1 h) ∙ e)
     go false e n = refl
 
 module _ (bytes : List ℕ) where
-  by_nul : (n : ℕ) → FirstIs 0 bytes n → (t : Bool) → is_utf8 (take n bytes) ≡ t → terminated bytes ≡ either t (Valid n) Invalid
+  by_nul : (n : ℕ) → FirstIs 0 bytes n → (t : Bool) → is_utf8 (take n bytes) ≡ t → terminated bytes ≡ either t (Ok n) (Err Invalid)
   unfolding terminated before_nul either
   by_nul n f t e = let z = (until_iff 0 bytes n).1 f in rw (z.0, lt-ltb n (length bytes) z.1, e)
 
-  is_valid : (n : ℕ) → FirstIs 0 bytes n → Encoded (take n bytes) → terminated bytes ≡ Valid n
+  is_valid : (n : ℕ) → FirstIs 0 bytes n → Encoded (take n bytes) → terminated bytes ≡ Ok n
   unfolding either
   is_valid n f h = by_nul n f true ((utf8_iff (take n bytes)).1 h)
 
-  is_invalid : (n : ℕ) → FirstIs 0 bytes n → (Encoded (take n bytes) → ⊥) → terminated bytes ≡ Invalid
+  is_invalid : (n : ℕ) → FirstIs 0 bytes n → (Encoded (take n bytes) → ⊥) → terminated bytes ≡ Err Invalid
   unfolding either
   is_invalid n f h = by_nul n f false ((not_encoded_iff (take n bytes)).1 h)
 
-  is_unterminated : length bytes ≤ until 0 bytes → terminated bytes ≡ Unterminated
+  is_unterminated : length bytes ≤ until 0 bytes → terminated bytes ≡ Err Unterminated
   unfolding terminated either
   is_unterminated h = rw (le-ltb (until 0 bytes) (length bytes) h)
 
@@ -56,7 +57,7 @@ module _ (bytes : List ℕ) where
       go f false e = bad (until 0 bytes) f ((not_encoded_iff (take (until 0 bytes) bytes)).0 e)
 
   -- a string of n bytes exactly if the first NUL is byte n and the bytes before it are the encodings of code points
-  pub valid_iff : (n : ℕ) → (terminated bytes ≡ Valid n) ↔ (FirstIs 0 bytes n × Encoded (take n bytes))
+  pub valid_iff : (n : ℕ) → (terminated bytes ≡ Ok n) ↔ (FirstIs 0 bytes n × Encoded (take n bytes))
   valid_iff n = (
     λ e. by_cases
         (λ m f h. let told = is_valid m f h in let z : m ≡ n = cc in subst (λ (k : ℕ). FirstIs 0 bytes k × Encoded (take k bytes)) z (f, h))
@@ -65,7 +66,7 @@ module _ (bytes : List ℕ) where
     λ h. is_valid n h.0 h.1,
   )
 
-  pub invalid_iff : (terminated bytes ≡ Invalid) ↔ ((n : ℕ) × (FirstIs 0 bytes n × (Encoded (take n bytes) → ⊥)))
+  pub invalid_iff : (terminated bytes ≡ Err Invalid) ↔ ((n : ℕ) × (FirstIs 0 bytes n × (Encoded (take n bytes) → ⊥)))
   invalid_iff = (
     λ e. by_cases
         (λ m f h. let told = is_valid m f h in absurd (let z : ◌≡◌ {A = ℕ} 0 1 = cc in omega arith))
@@ -74,7 +75,7 @@ module _ (bytes : List ℕ) where
     λ h. is_invalid h.0 h.1.0 h.1.1,
   )
 
-  pub unterminated_iff : (terminated bytes ≡ Unterminated) ↔ ((n : ℕ) → FirstIs 0 bytes n → ⊥)
+  pub unterminated_iff : (terminated bytes ≡ Err Unterminated) ↔ ((n : ℕ) → FirstIs 0 bytes n → ⊥)
   unterminated_iff = (
     λ e n f. by_cases
         (λ m g h. let told = is_valid m g h in let z : ◌≡◌ {A = ℕ} 0 1 = cc in omega arith)

@@ -1,7 +1,8 @@
 -- From place to place: a step over one character loses nothing, and steps compose. Characters of several bytes have no byte that is NUL,
 -- so that the bytes before the first NUL begin with one exactly if the bytes do.
+use Rattle.std.specs.Prelude.{Ok, Err}
 use Prim.Native.Nat.{ℕ, zero, suc, ◌+◌, ◌-◌, ◌≤◌, ◌<◌}
-use mathlib.Core.Bool.{Bool, true, false, ◌&&◌, true≢false}
+use mathlib.Core.Bool.{Bool, true, false, cond, true≢false}
 use mathlib.Core.List.{List, [], ◌∷◌}
 use mathlib.Core.Path.{◌≡◌, refl, sym, ap, ◌∙◌}
 use native.Mathlib.Omega.{arith}
@@ -10,14 +11,17 @@ use borrow.Author.Tests.{eq-eqb, ne_eqb, lt-ltb, le-ltb, le-leb, leb-true, ltb-t
 use lib.Dec.{leb, ltb}
 use lib.ListN.{length, take, drop, get_or, length-drop, length-take, drop_of_length-le}
 use lib.Seq.{drop-cons, drop-drop, take_all, take-nil}
+use Rattle.std.specs.List.{list_all, prefix_len}
+use Rattle.std.proofs.lemmas.List.Sums.{prefix_len-le-length, prefix_len_stops}
+use Rattle.std.proofs.lemmas.List.{get_or-drop}
 use Rattle.range.proofs.Tests.{both}
 use Rattle.refusal.specs.Check.{either}
 use Rattle.scan.specs.Until.{until}
 use Rattle.scan.proofs.Laws.{found_here, found_later, until_most}
 use Rattle.utf8.specs.Grammar.{ByteRange, ◌to◌, CharForm, ◌then◌, multibyte, forms, in_range, in_ranges, size_if, char_size, only_chars, is_utf8}
 use Rattle.utf8.specs.Terminated.{before_nul, terminated}
-use Rattle.utf8.specs.Progress.{is_plain, Spans, CharsEnd}
-use Rattle.utf8.specs.declared.Utf8.TheVariants.{Valid, Invalid, Unterminated}
+use Rattle.utf8.specs.declared.Fault.TheVariants.{Invalid, Unterminated}
+use Rattle.utf8.specs.Progress.{is_plain, Spans, PlainSpan, CharsEnd}
 use Rattle.utf8.proofs.Forms.{below_range, range_bounds, rows_passed, its_row, Each, by_rows}
 use Rattle.utf8.proofs.Encoding.{next_char, no_char, size_inside}
 
@@ -104,6 +108,17 @@ size_multibyte b bytes h = rows_passed 1 forms b (before_nul bytes) (omega arith
 pub rest_bytes : (s : List ℕ) (i : ℕ) → take (length s - i) (drop i s) ≡ drop i s
 rest_bytes s i = take_all (length s - i) (drop i s) (simp length-drop (omega arith))
 
+prefix_all : (s : List ℕ) → list_all is_plain (take (prefix_len is_plain s) s) ≡ true
+prefix_all [] = refl
+prefix_all (b ∷ s) = go (is_plain b) refl (prefix_all s)
+  where
+    go : (t : Bool) → is_plain b ≡ t → list_all is_plain (take (prefix_len is_plain s) s) ≡ true
+        → list_all is_plain (take (cond t (1 + prefix_len is_plain s) 0) (b ∷ s)) ≡ true
+    go true e r =
+        let z : 1 + prefix_len is_plain s ≡ suc (prefix_len is_plain s) = omega arith in
+        rw (z, e) r
+    go false e r = refl
+
 module _ (bytes : List ℕ) where
   pub spans_none : (i : ℕ) → i ≤ length bytes → Spans bytes i i
   spans_none i h = record { onward = omega arith; in_bytes = h; same = refl; count = refl }
@@ -148,15 +163,28 @@ module _ (bytes : List ℕ) where
     unfolding is_plain
     tested_no y h l = let b = get_or bytes i 0 in ltb-false b 0x80 (sym (rw (le-leb 1 b l)) ∙ sym e ∙ y)
 
-  pub group_none : (from : ℕ) → from ≤ length bytes → Spans bytes from (from + 0)
-  group_none from h = let z : from + 0 ≡ from = omega arith in rw z (spans_none from h)
+  -- plain bytes at a place
+  pub plain_all : (n i : ℕ) → i + n ≤ length bytes → list_all is_plain (take n (drop i bytes)) ≡ true → Spans bytes i (i + n)
+  plain_all zero i h e = let z : i + 0 ≡ i = omega arith in rw z (spans_none i (omega arith))
+  plain_all (suc n) i h e =
+      let b = get_or bytes i 0 in
+      let l : i < length bytes = omega arith in
+      let p = (both (is_plain b) (list_all is_plain (take n (drop (suc i) bytes)))).0 (rw (drop-cons bytes i 0 l) at e) in
+      let z : i + suc n ≡ i + 1 + n = omega arith in
+      let y : suc i ≡ i + 1 = omega arith in
+      rw z (spans_on (tested_yes i (is_plain b) refl l p.0) (plain_all n (i + 1) (omega arith) (rw y at p.1)))
 
-  pub group_more : (from k : ℕ) (plain t : Bool) → (plain ≡ true → Spans bytes from (from + k)) → from + k < length bytes
-      → t ≡ is_plain (get_or bytes (from + k) 0) → (plain && t) ≡ true → Spans bytes from (from + (k + 1))
-  group_more from k plain t p h e y =
-      let q = (both plain t).0 y in
-      let z : from + k + 1 ≡ from + (k + 1) = omega arith in
-      rw z at (spans_on (p q.0) (tested_yes (from + k) t e h q.1))
+  -- bytes one by one, up to the first that is not plain
+  pub plain_prefix : (i : ℕ) → i ≤ length bytes → PlainSpan bytes i (i + prefix_len is_plain (drop i bytes))
+  plain_prefix i h =
+      let n = prefix_len is_plain (drop i bytes) in
+      let l : n ≤ length (drop i bytes) = prefix_len-le-length is_plain (drop i bytes) in
+      record {
+        spans = plain_all n i (omega (arith, length-drop i bytes)) (prefix_all (drop i bytes));
+        end = λ m z.
+            let stops = prefix_len_stops is_plain (drop i bytes) 0 (omega (arith, length-drop i bytes)) in
+            tested_no (i + n) false (sym (rw get_or-drop at stops)) refl m z;
+      }
 
   pub multibyte_step : (i w : ℕ) → i < length bytes → w ≡ char_size multibyte (drop i bytes) → (w ≡ 0 → ⊥) → Spans bytes i (i + w)
   unfolding char_size
@@ -201,14 +229,14 @@ module _ (bytes : List ℕ) (r : ℕ) (at : CharsEnd bytes r) where
   until_rest : until 0 bytes ≡ r + until 0 (drop r bytes)
   until_rest = omega (arith, at.spans.count)
 
-  pub unterminated : length bytes ≤ r + until 0 (drop r bytes) → Unterminated ≡ terminated bytes
+  pub unterminated : length bytes ≤ r + until 0 (drop r bytes) → (Err Unterminated) ≡ terminated bytes
   unfolding terminated either
   unterminated h = rw (le-ltb (until 0 bytes) (length bytes) (omega (arith, until_rest)))
 
-  pub all_passed : length bytes ≤ r → Unterminated ≡ terminated bytes
+  pub all_passed : length bytes ≤ r → (Err Unterminated) ≡ terminated bytes
   all_passed h = unterminated (omega arith)
 
-  pub valid : r < length bytes → get_or bytes r 0 ≡ 0 → Valid r ≡ terminated bytes
+  pub valid : r < length bytes → get_or bytes r 0 ≡ 0 → Ok r ≡ terminated bytes
   unfolding terminated either
   valid h e =
       let none = found_here 0 bytes r h e in
@@ -216,7 +244,7 @@ module _ (bytes : List ℕ) (r : ℕ) (at : CharsEnd bytes r) where
       let good : is_utf8 (before_nul bytes) ≡ true = at.spans.same ∙ empty_utf8 (before_nul (drop r bytes)) (before_length (drop r bytes) ∙ none) in
       rw (good, z, lt-ltb r (length bytes) h)
 
-  pub invalid : r < length bytes → (get_or bytes r 0 ≡ 0 → ⊥) → r + until 0 (drop r bytes) < length bytes → Invalid ≡ terminated bytes
+  pub invalid : r < length bytes → (get_or bytes r 0 ≡ 0 → ⊥) → r + until 0 (drop r bytes) < length bytes → (Err Invalid) ≡ terminated bytes
   unfolding terminated either
   invalid h m l =
       let bad : is_utf8 (before_nul bytes) ≡ false =

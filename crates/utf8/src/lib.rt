@@ -2,14 +2,14 @@
 #![tactic(auto)]
 
 ghost use Rattle.std.specs.Prelude.{◌≡◌, true, [], ◌∷◌, ◌+◌, ◌≤◌, ◌<◌, length, drop};
+ghost use Rattle.std.specs.List.{list_all};
 ghost use Rattle.utf8.specs.Grammar.{◌to◌, continuation, multibyte, in_range, size_if, char_size};
 ghost use Rattle.utf8.specs.Terminated.{terminated};
 ghost use Rattle.utf8.specs.Progress.{second_low, second_high, is_plain, Spans, PlainSpan, CharsEnd};
 
-// The string that the first NUL ends: its length where it is UTF-8.
-#[derive(Clone, Copy)]
-pub enum Utf8 {
-    Valid(usize),
+// Why bytes begin with no string.
+#[derive(Clone, Copy, Debug, PartialEq, Eq, Hash)]
+pub enum Fault {
     Invalid,
     Unterminated,
 }
@@ -21,63 +21,54 @@ fn in_range(x: u8, low: u8, high: u8) -> bool
 }
 
 // What the second byte may be, after a first byte of E0 or more.
+#[tactic(auto, unfolding(crate::specs::Progress::second_low, refusal::specs::Check::either))]
 fn second_low(b: u8) -> u8
     ensures { result ≡ second_low b }
 {
-    if b == 0xE0 {
-        return 0xA0;
+    match b {
+        0xE0 => 0xA0,
+        0xF0 => 0x90,
+        _ => 0x80,
     }
-    if b == 0xF0 {
-        return 0x90;
-    }
-    0x80
 }
 
+#[tactic(auto, unfolding(crate::specs::Progress::second_high, refusal::specs::Check::either))]
 fn second_high(b: u8) -> u8
     ensures { result ≡ second_high b }
 {
-    if b == 0xED {
-        return 0x9F;
+    match b {
+        0xED => 0x9F,
+        0xF4 => 0x8F,
+        _ => 0xBF,
     }
-    if b == 0xF4 {
-        return 0x8F;
-    }
-    0xBF
 }
 
 // The size of a character of two, three or four bytes, by those after the first; 0 if they do not match.
 fn two(s: &[u8]) -> usize
     ensures { result ≡ size_if (continuation ∷ []) (drop 1 s.now) }
 {
-    if s.len() < 2 {
-        return 0;
+    match s {
+        [_, b, ..] if in_range(*b, 0x80, 0xBF) => 2,
+        _ => 0,
     }
-    if in_range(s[1], 0x80, 0xBF) { 2 } else { 0 }
 }
 
 fn three(s: &[u8], low: u8, high: u8) -> usize
     ensures { result ≡ size_if (low to high ∷ continuation ∷ []) (drop 1 s.now) }
 {
-    if s.len() < 3 {
-        return 0;
-    }
-    if in_range(s[1], low, high) & in_range(s[2], 0x80, 0xBF) {
-        3
-    } else {
-        0
+    match s {
+        [_, b, c, ..] if in_range(*b, low, high) & in_range(*c, 0x80, 0xBF) => 3,
+        _ => 0,
     }
 }
 
 fn four(s: &[u8], low: u8, high: u8) -> usize
     ensures { result ≡ size_if (low to high ∷ continuation ∷ continuation ∷ []) (drop 1 s.now) }
 {
-    if s.len() < 4 {
-        return 0;
-    }
-    if in_range(s[1], low, high) & (in_range(s[2], 0x80, 0xBF) & in_range(s[3], 0x80, 0xBF)) {
-        4
-    } else {
-        0
+    match s {
+        [_, b, c, d, ..]
+            if in_range(*b, low, high) & (in_range(*c, 0x80, 0xBF) & in_range(*d, 0x80, 0xBF)) => 4,
+        _ => 0,
     }
 }
 
@@ -85,23 +76,12 @@ fn four(s: &[u8], low: u8, high: u8) -> usize
 fn multibyte_size(s: &[u8]) -> usize
     ensures { result ≡ char_size multibyte s.now }
 {
-    if s.len() == 0 {
-        return 0;
+    match s {
+        [0xC2..=0xDF, ..] => two(s),
+        [b @ 0xE0..=0xEF, ..] => three(s, second_low(*b), second_high(*b)),
+        [b @ 0xF0..=0xF4, ..] => four(s, second_low(*b), second_high(*b)),
+        _ => 0,
     }
-    let b = s[0];
-    if b < 0xC2 {
-        return 0;
-    }
-    if b < 0xE0 {
-        return two(s);
-    }
-    if b < 0xF0 {
-        return three(s, second_low(b), second_high(b));
-    }
-    if b < 0xF5 {
-        return four(s, second_low(b), second_high(b));
-    }
-    0
 }
 
 // Whether a byte is ASCII and not NUL.
@@ -111,18 +91,11 @@ fn is_plain(x: u8) -> bool
     (1 <= x) & (x < 0x80)
 }
 
-// Whether sixteen bytes from a place on are all plain. By `&`, so that one vector comparison serves.
-fn plain_sixteen(bytes: &[u8], from: usize) -> bool
-    requires { from + 16 ≤ length bytes.now }
-    ensures { result ≡ true → Spans bytes.now from (from + 16) }
+// Whether sixteen bytes are all plain. By `&`, so that one vector comparison serves.
+fn plain_sixteen(group: &[u8; 16]) -> bool
+    ensures { result ≡ list_all is_plain group.now }
 {
-    let mut plain = true;
-    let mut k = 0;
-    while k < 16 {
-        plain = plain & is_plain(bytes[from + k]);
-        k += 1;
-    }
-    plain
+    group.iter().fold(true, |plain, x| plain & is_plain(*x))
 }
 
 // A place up to which groups of sixteen bytes are plain.
@@ -131,7 +104,9 @@ fn skip_groups(bytes: &[u8], from: usize) -> usize
     ensures { Spans bytes.now from result }
 {
     let mut i = from;
-    while 16 <= bytes.len() - i && plain_sixteen(bytes, i) {
+    while let Some(group) = bytes[i..].first_chunk()
+        && plain_sixteen(group)
+    {
         i += 16;
     }
     i
@@ -145,17 +120,11 @@ fn plain_end(bytes: &[u8], from: usize) -> usize
     if !is_plain(bytes[from]) {
         return from;
     }
-    let mut i = skip_groups(bytes, from + 1);
-    while i < bytes.len() {
-        if !is_plain(bytes[i]) {
-            return i;
-        }
-        i += 1;
-    }
-    i
+    let at = skip_groups(bytes, from + 1);
+    at + bytes[at..].iter().take_while(|x| is_plain(**x)).count()
 }
 
-// A place before the first NUL where no character begins.
+// A place before the first NUL where no character begins. By place: a step is as long as the characters that it passes.
 fn chars_end(bytes: &[u8]) -> usize
     ensures { CharsEnd bytes.now result }
 {
@@ -174,21 +143,21 @@ fn chars_end(bytes: &[u8]) -> usize
     i
 }
 
-// The string that the first NUL ends, in one pass.
-pub fn check(bytes: &[u8]) -> Utf8
+// The length of the string that the first NUL ends, where it is UTF-8; in one pass.
+pub fn check(bytes: &[u8]) -> Result<usize, Fault>
     ensures { result ≡ terminated bytes.now }
 {
     let i = chars_end(bytes);
     if bytes.len() <= i {
-        return Utf8::Unterminated;
+        return Err(Fault::Unterminated);
     }
     if bytes[i] == 0 {
-        return Utf8::Valid(i);
+        return Ok(i);
     }
     let rest = bytes.len() - i;
     if scan::until(0, &bytes[i..]) < rest {
-        Utf8::Invalid
+        Err(Fault::Invalid)
     } else {
-        Utf8::Unterminated
+        Err(Fault::Unterminated)
     }
 }

@@ -9,8 +9,7 @@ use lib.Dec.{eqb, ltb, leb}
 use lib.ListN.{length, get_or}
 use Rattle.le.specs.Number.{number}
 use Rattle.refusal.specs.declared.Refusal.TheVariants as No
-use Rattle.refusal.specs.declared.Check.{Check}
-use Rattle.refusal.specs.Check.{rule, first}
+use Rattle.refusal.specs.Check.{rule, Passed}
 use Rattle.refusal.proofs.Checks.{rule_passes, first_passes}
 use Rattle.open.specs.Opening.{field}
 use Rattle.open.specs.Kept.{ContextsKept}
@@ -25,7 +24,7 @@ use Rattle.visit.proofs.Slices.{not_not, taken_seen}
 
 -- without a slot, whether an id is twice does not count
 no_slot : (depth id slots : ℕ) (a b : Bool) → ltb id slots ≡ false → slot_check depth id slots a ≡ slot_check depth id slots b
-unfolding slot_check first rule
+unfolding slot_check rule
 no_slot depth id slots a b e = rw e
 
 -- the fields that are read
@@ -56,7 +55,7 @@ module _ (E : Parameters) (l : List Entry) (table : List ℕ) (filled : table �
 
   pub by_table : (path : List ℕ) (depth p stop : ℕ) → length path ≡ depth → context_rule E.asked.file p stop ≡ true
       → visit_check E path p stop l ≡ checks_after10 E.asked.file E.targets depth p table
-  unfolding visit_check checks_after10 rule first
+  unfolding visit_check checks_after10 rule
   by_table path depth p stop d fine = rw (fine, d, same_slot depth (field E.asked.file p ctx_id))
 
 -- what the checks say once they have passed
@@ -66,7 +65,7 @@ pub record Safe (file : List ℕ) (t : Targets) (depth p : ℕ) (table : List �
   pub slot : field file p ctx_id < length table
   pub fresh : get_or table (field file p ctx_id) 0 ≡ 0
 
-pub safe : (file : List ℕ) (t : Targets) (depth p : ℕ) (table : List ℕ) → checks_after10 file t depth p table ≡ Check.Passed
+pub safe : (file : List ℕ) (t : Targets) (depth p : ℕ) (table : List ℕ) → checks_after10 file t depth p table ≡ Passed
     → Safe file t depth p table
 unfolding checks_after10 slot_check children_rule
 safe file t depth p table z =

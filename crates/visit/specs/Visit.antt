@@ -1,8 +1,7 @@
 -- A visit as the code makes it: with the table's word for which ctxIds are on the trail.
 use Rattle.std.specs.Prelude.{ℕ, ◌*◌, ◌/◌, ◌<◌, Bool, not, List, [], ◌∷◌, ◌≡◌, eqb, ltb, length, get_or}
 use Rattle.refusal.specs.declared.Refusal.TheVariants as No
-use Rattle.refusal.specs.declared.Check.{Check}
-use Rattle.refusal.specs.Check.{either, rule, first}
+use Rattle.refusal.specs.Check.{either, rule, first, Check}
 use Rattle.buffer.specs.Over.{over}
 use Rattle.open.specs.Opening.{field}
 use Rattle.context.specs.Context.{Targets, ctx_id, links_rule, children_rule}

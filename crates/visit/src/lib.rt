@@ -7,19 +7,19 @@ ghost use Rattle.traversal.specs.Traversal.{slot_check};
 ghost use Rattle.visit.specs.Visit.{taken, checks_after10, RecordPut};
 
 use context::{CTX_ID, RECORD, TARGETS};
-use refusal::{Check, Refusal};
+use refusal::Refusal;
 
 const DEPTH_LIMIT: u64 = 200;
 
 // 12, 13, 14.
-fn slot_check(table: &[u64], depth: u64, id: usize) -> Check
+fn slot_check(table: &[u64], depth: u64, id: usize) -> Result<(), Refusal>
     ensures { result ≡ slot_check depth id (length table.now) (taken table.now id) }
 {
     if DEPTH_LIMIT < depth {
-        return Check::Refused(Refusal::Deep);
+        return Err(Refusal::Deep);
     }
     if table.len() <= id {
-        return Check::Refused(Refusal::Slot);
+        return Err(Refusal::Slot);
     }
     refusal::rule(table[id] == 0, Refusal::Twice)
 }
@@ -31,15 +31,15 @@ pub fn visit_check(
     depth: u64,
     p: usize,
     table: &[u64],
-) -> Check
+) -> Result<(), Refusal>
     requires { Readable file.now p }
     ensures { result ≡ checks_after10 file.now (targets_in targets.now) depth p table.now }
 {
     if !context::links_rule(file, targets, p) {
-        return Check::Refused(Refusal::Link);
+        return Err(Refusal::Link);
     }
     if !context::children_rule(file, targets, p) {
-        return Check::Refused(Refusal::Array);
+        return Err(Refusal::Array);
     }
     let id = le::load_u32(file, p + CTX_ID) as usize;
     slot_check(table, depth, id)

@@ -5,7 +5,7 @@ use mathlib.Core.Path.{◌≡◌, refl, sym, ◌∙◌}
 use native.Mathlib.Omega.{arith}
 use lib.ListN.{length, replicate}
 use Rattle.le.specs.Number.{number}
-use Rattle.refusal.specs.Check.{if_passed}
+use Rattle.refusal.specs.Check.{on_answer}
 use Rattle.open.specs.Format.{meta}
 use Rattle.open.specs.Names as Section
 use Rattle.open.specs.Opening.{field, place_in, pairs, on_opened}
@@ -38,7 +38,7 @@ module _ (file : List ℕ) {ps : List (List ℕ)} (o : Sections meta file ps) (t
     roots = level E (suc depth_limit) 0 [] place (place + bytes) []
 
     walk_is : walk_of a ≡ roots
-    unfolding traversal from_roots on_opened if_passed field targets_of
+    unfolding traversal from_roots on_opened on_answer field targets_of
     walk_is =
         let at = place_in (pairs meta file) Section.context in
         rw (unmarked_walk file a.lent, o.passed, ep, eb, et, o.same)
@@ -47,7 +47,7 @@ module _ (file : List ℕ) {ps : List (List ℕ)} (o : Sections meta file ps) (t
 
     left : (r : Walked) (listing' table' records' : List ℕ) → Done was roots r (slices listing' table' records')
         → Leaves itself file was r (slices listing' table' records')
-    unfolding on_opened if_passed
+    unfolding on_opened on_answer
     left r listing' table' records' d = record {
       answers = rw walk_is d.says;
       lists = rw walk_is d.holds.listed;

@@ -1,4 +1,6 @@
 -- A visit: the table's word on an id stands for the list's, and the checks decide.
+use Rattle.std.specs.Prelude.{Err}
+use Rattle.refusal.specs.Check.{Check, Passed}
 use Prim.Native.Nat.{ℕ, suc, ◌+◌, ◌-◌, ◌≤◌, ◌<◌}
 use mathlib.Core.Bool.{true}
 use mathlib.Core.List.{List, [], ◌∷◌, ◌++◌}
@@ -7,7 +9,6 @@ use native.Mathlib.Omega.{arith}
 use borrow.Author.Tests.{lt-ltb, le-ltb}
 use lib.ListN.{length, set}
 use Rattle.refusal.specs.declared.Refusal.{Refusal}
-use Rattle.refusal.specs.declared.Check.{Check}
 use Rattle.open.specs.Opening.{field}
 use Rattle.context.specs.Context.{Targets, children_place, children_bytes, ctx_id, context_rule}
 use Rattle.context.specs.Entry.{Entry, entry_at}
@@ -39,11 +40,11 @@ module _ (file : List ℕ) (t : Targets) (depth parent p stop n : ℕ) (s : Slic
     checked : (was : Slices) (l : List Entry) (path : List ℕ) → length path ≡ depth → Holds was l s n → visit_check (E was) path p stop l ≡ checks
     checked was l path d h = by_table (E was) l s.table h.filled h.placed path depth p stop d fine
 
-    pub does_refused : (c : Check) (r : Refusal) → c ≡ checks → c ≡ Check.Refused r → ContextDoes file t depth parent p stop n s (Refused r n) s
+    pub does_refused : (c : Check) (r : Refusal) → c ≡ checks → c ≡ Err r → ContextDoes file t depth parent p stop n s (Refused r n) s
     does_refused c r e z was l path d h =
         rw (visit_refused (E was) (down was) parent path p stop l r (checked was l path d h ∙ sym e ∙ z)) (done_refused was s l n h r)
 
-    module _ (c : Check) (e : c ≡ checks) (z : c ≡ Check.Passed) where
+    module _ (c : Check) (e : c ≡ checks) (z : c ≡ Passed) where
       pub does_cut : length s.listing ≤ n → ContextDoes file t depth parent p stop n s (Truncated n) s
       does_cut k was l path d h =
           rw

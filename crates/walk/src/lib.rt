@@ -12,7 +12,7 @@ ghost use Rattle.walk.specs.State.{ArrayDoes, ContextDoes};
 
 use context::{CTX_ID, TARGETS};
 use open::CONTEXT;
-use refusal::{Check, Refusal};
+use refusal::Refusal;
 use traversal::Walked;
 
 // The contexts from `at` to `stop`, at a depth, with all below them: children of the context at `parent`, which is 0 for the roots.
@@ -71,7 +71,7 @@ fn visit(
         result (slices listing.new table.new records.new) }
 {
     let check = visit::visit_check(file, targets, depth, p, table);
-    if let Check::Refused(r) = check {
+    if let Err(r) = check {
         return Walked::Refused(r, n);
     }
     if listing.len() <= n {
@@ -130,11 +130,9 @@ pub fn records(file: &[u8], listing: &mut [u64], table: &mut [u64], records: &mu
     ensures { Leaves itself file.now (slices listing.old table.old records.old)
         result (slices listing.new table.new records.new) }
 {
-    let sections = open::meta_sections(file);
-    let check = open::check_meta(file, &sections);
-    match check {
-        Check::Passed => walk_in(file, &sections, listing, table, records),
-        Check::Refused(r) => Walked::Refused(r, 0),
+    match open::open_meta(file) {
+        Ok(sections) => walk_in(file, &sections, listing, table, records),
+        Err(r) => Walked::Refused(r, 0),
     }
 }
 

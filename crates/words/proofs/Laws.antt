@@ -1,13 +1,22 @@
 -- An answer is written exactly if its number is 0, which no refusal has.
 use Prim.Native.Nat.{ℕ, zero, suc, ◌≤◌}
+use mir.Val.{bool_byte}
+use mathlib.Core.Bool.{Bool, true, false}
 use mathlib.Core.List.{List, ◌∷◌}
 use mathlib.Core.Path.{◌≡◌, refl, sym, ap, ◌∙◌}
 use native.Mathlib.Omega.{arith}
 use Rattle.refusal.specs.declared.Refusal.{Refusal}
 use Rattle.refusal.specs.Number.{number_of}
+use Rattle.refusal.specs.Check.{either}
 use Rattle.refusal.specs.Words.{code_in}
 use Rattle.refusal.proofs.Numbers.{positive}
 use Rattle.words.specs.Convention.{words_in}
+
+-- a bit as a number
+pub as_bit : (b : Bool) → bool_byte b ≡ either b 1 0
+unfolding either
+as_bit true = refl
+as_bit false = refl
 
 leaves : (n : ℕ) → 1 ≤ n → (was values : List ℕ) → was ≡ words_in was (n ∷ values)
 unfolding words_in

@@ -9,13 +9,6 @@ use mathlib.Core.Path.{◌≡◌, sym, ◌∙◌}
 use native.Mathlib.Omega.{arith}
 use Rattle.block.proofs.order_rule.Goals as goal
 
-pub start_of-requires : goal.start_of-requires
-start_of-requires c =
-    record {
-      arrays_inside = c.requires;
-      i_lt_count = c.requires.some_index;
-    }
-
 pub returns-then-start_of-ne0 : goal.returns-then-start_of-ne0
 returns-then-start_of-ne0 c =
     start_fails c.args.file.now c.args.h c.args.b (λ e. c.if-start_of-ne0.true (c.start_of.ensures ∙ e))
@@ -27,24 +20,10 @@ loop-i-init c = (
   λ l. sym c.if-start_of-ne0.false ∙ c.start_of.ensures,
 )
 
-pub id_at-id-requires : goal.id_at-id-requires
-id_at-id-requires c =
-    record {
-      elements_inside = c.requires.indices;
-      k_lt_n = c.loop-i-test.true;
-    }
-
 pub returns-then-id-low : goal.returns-then-id-low
 returns-then-id-low c =
     ids_fail c.args.file.now c.args.h c.args.b
     (rising_not c.loop-i.invariant.0 c.loop-i-test.true (rw c.id_at-id.ensures.value at c.if-id-low.true))
-
-pub end_of-end-requires : goal.end_of-end-requires
-end_of-end-requires c =
-    record {
-      arrays_inside = c.requires;
-      i_lt_count = c.loop-i-test.true;
-    }
 
 pub returns-then-not-part_rule : goal.returns-then-not-part_rule
 returns-then-not-part_rule c =

@@ -3,7 +3,7 @@ use Rattle.block.specs.Block.{start_of, outer_ids}
 use Rattle.block.specs.OnePass.{part_rule}
 use Rattle.seq.specs.Sequence.{every}
 use Rattle.seq.proofs.Rising.{Rising}
-use Prim.Native.Nat.{◌-◌, ◌<◌}
+use Prim.Native.Nat.{◌<◌}
 use mathlib.Core.Bool.{true}
 use mathlib.Core.Path.{◌≡◌}
 use Rattle.block.proofs.order_rule.Given as goal
@@ -11,6 +11,3 @@ use Rattle.block.proofs.order_rule.Given as goal
 abbrev pub invariant-loop-i : goal.invariant-loop-i
 invariant-loop-i l = Rising 0 1 (outer_ids l.file l.h l.b) l.n l.low l.i × (every (part_rule l.file l.h l.b) l.i ≡ true)
     × (l.i < l.n → l.start ≡ start_of l.file l.h l.b l.i)
-
-abbrev pub decreases-loop-i : goal.decreases-loop-i
-decreases-loop-i l = l.n - l.i

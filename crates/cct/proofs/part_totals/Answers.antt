@@ -8,29 +8,11 @@ use Rattle.cct.specs.Totals.{part_totals}
 use Rattle.cct.proofs.part_totals.Goals as goal
 use Rattle.cct.proofs.part_totals.Goals.{then-above, else-above+then-x-low, else-above+else-x-low}
 
-pub word_at-first-requires : goal.word_at-first-requires
-word_at-first-requires c =
-    record {
-      elements_inside = c.requires.elements;
-      k_lt_n = c.requires.some;
-    }
-
 pub returns-then-not-is_finite : goal.returns-then-not-is_finite
 unfolding part_totals
 returns-then-not-is_finite c =
     summing_not (id_at c.args.h.inner c.args.file.now c.args.p.place) (word_at c.args.h.inner c.args.file.now c.args.p.place)
     c.args.p.length c.requires.some c.word_at-first.ensures c.is_finite.ensures (ap not c.if-not-is_finite.true)
-
-pub id_at-requires : goal.id_at-requires
-id_at-requires c =
-    record {
-      elements_inside = c.requires.elements;
-      k_lt_n = c.requires.some;
-    }
-
-pub start-t-requires : goal.start-t-requires
-start-t-requires c =
-    finite_told _ c.is_finite.ensures (ap not c.if-not-is_finite.false)
 
 pub float_from_bits-low : goal.float_from_bits-low
 float_from_bits-low c =
@@ -43,13 +25,6 @@ loop-k-init c =
     (summing_start (id_at c.args.h.inner c.args.file.now c.args.p.place) (word_at c.args.h.inner c.args.file.now c.args.p.place)
     c.args.p.length c.requires.some c.id_at.ensures.value c.word_at-first.ensures fin)
 
-pub word_at-bits-requires : goal.word_at-bits-requires
-word_at-bits-requires c =
-    record {
-      elements_inside = c.requires.elements;
-      k_lt_n = c.loop-k-test.true;
-    }
-
 pub returns-then-not-is_finite-2 : goal.returns-then-not-is_finite-2
 unfolding part_totals
 returns-then-not-is_finite-2 c =
@@ -60,25 +35,11 @@ pub float_from_bits-x : goal.float_from_bits-x
 float_from_bits-x c =
     finite_bits _ (finite_told _ c.is_finite-in-loop-k.ensures (ap not c.if-not-is_finite-2.false))
 
-pub id_at-requires-then-above : goal.id_at-requires-then-above
-id_at-requires-then-above c =
-    record {
-      elements_inside = c.requires.elements;
-      k_lt_n = c.loop-k-test.true;
-    }
-
 pub raise-t-requires : goal.raise-t-requires
 raise-t-requires c =
     let fin = finite_told _ c.is_finite-in-loop-k.ensures (ap not c.if-not-is_finite-2.false) in
     let told = above c.loop-k.invariant c.word_at-bits.result fin c.if-above.true in
     record { bits_value = fin; good = c.loop-k.invariant.good; bits_value_2 = told.0; least_value = told.1 }
-
-pub id_at-requires-then-x-low : goal.id_at-requires-then-x-low
-id_at-requires-then-x-low c =
-    record {
-      elements_inside = c.requires.elements;
-      k_lt_n = c.loop-k-test.true;
-    }
 
 pub lower-t-requires : goal.lower-t-requires
 lower-t-requires c =
@@ -110,10 +71,6 @@ loop-k-preserved c =
           rw (w.t-is, w.low-is, w.high-is)
           (summing_add inv v fin more read w.add-t.ensures.by_index w.if-above.false w.if-x-low.false)
     ]
-
-pub finish-requires : goal.finish-requires
-finish-requires c =
-    c.loop-k.invariant.good
 
 pub returns : goal.returns
 unfolding part_totals

@@ -13,7 +13,7 @@ pub part_at-requires : goal.part_at-requires
 part_at-requires c =
     record {
       sound_block = c.requires;
-      i_lt_count = index_below c.requires c.args.outer _ c.index_of.ensures c.in-At.is;
+      i_lt_count = index_below c.requires c.args.outer _ c.index_of.ensures c.in-Some.is;
     }
 
 pub part_totals-requires : goal.part_totals-requires
@@ -23,4 +23,4 @@ part_totals-requires c =
 pub returns : goal.returns
 unfolding totals_in at_index
 returns c =
-    c.part_totals.ensures ∙ rw (← c.index_of.ensures, c.in-At.is, ← c.part_at.ensures.value)
+    c.part_totals.ensures ∙ rw (← c.index_of.ensures, c.in-Some.is, ← c.part_at.ensures.value)

@@ -1,23 +1,25 @@
 -- By whether the file opens.
+use mathlib.Core.Path.{◌∙◌}
+use Rattle.refusal.proofs.Checks.{handed_on}
+use Rattle.std.specs.Prelude.{Err}
 use Rattle.open.specs.Format as Format
 use Rattle.open.specs.Names as Section
 use Rattle.open.proofs.Answer.{answers, refuses}
 use Rattle.array.proofs.Bounds.{header_there}
 use Rattle.count.specs.Count.{count_of}
-use Rattle.count.specs.declared.Count.TheVariants.{Refused}
 use native.Mathlib.Omega.{arith}
 use Rattle.count.proofs.contexts.Goals as goal
 
 pub elements-requires : goal.elements-requires
 elements-requires c =
-    header_there Format.cct _ c.single_section-sections.ensures.value c.check_cct-check.ensures c.in-Passed.is Section.infos (omega arith)
+    header_there Format.cct _ c.in_ok-sections.ensures Section.infos (omega arith)
 
-pub returns-in-Passed : goal.returns-in-Passed
+pub returns : goal.returns
 unfolding count_of
-returns-in-Passed c =
-    rw c.elements.ensures (answers Format.cct _ c.single_section-sections.ensures.value c.check_cct-check.ensures Refused _ c.in-Passed.is)
+returns c =
+    rw c.elements.ensures (answers Format.cct _ Err _ c.in_ok-sections.ensures)
 
-pub returns-in-Refused : goal.returns-in-Refused
+pub returns-in_err-sections : goal.returns-in_err-sections
 unfolding count_of
-returns-in-Refused c =
-    refuses Format.cct _ c.single_section-sections.ensures.value c.check_cct-check.ensures Refused _ _ c.in-Refused.is
+returns-in_err-sections c =
+    handed_on c.from_residual.ensures.1 ∙ refuses Format.cct _ Err _ c.in_err-sections.ensures

@@ -1,7 +1,7 @@
 -- 1, then what the pass says, then 20.
-use mathlib.Core.Path.{ap, ◌∙◌}
-use Rattle.refusal.specs.Check.{first}
-use Rattle.dcpi.proofs.Rules.{check_1, check_20}
+use mathlib.Core.Path.{◌∙◌}
+use Rattle.refusal.proofs.Checks.{handed_on}
+use Rattle.dcpi.proofs.Rules.{check_1, check_20, check_chunks}
 use Rattle.dcpi.proofs.check.Goals as goal
 
 pub returns-then-samples-lt8 : goal.returns-then-samples-lt8
@@ -10,6 +10,9 @@ returns-then-samples-lt8 c =
 
 pub returns : goal.returns
 returns c =
-    c.first.ensures ∙ ap (first c.pass_chunks-seen.result.check) c.rule.ensures
-    ∙ check_20 c.args.samples.now c.if-samples-lt8.false c.pass_chunks-seen.result.check c.pass_chunks-seen.ensures.check
-    c.packed_u32-nonzero.ensures c.packed_u32-sum.ensures c.pass_chunks-seen.ensures.nonzero c.pass_chunks-seen.ensures.sum
+    c.rule.ensures ∙ check_20 c.args.samples.now c.if-samples-lt8.false c.in_ok-seen.ensures.0 c.load_u32-nonzero.ensures
+    c.load_u32-sum.ensures c.in_ok-seen.ensures.1 c.in_ok-seen.ensures.2
+
+pub returns-in_err-seen : goal.returns-in_err-seen
+returns-in_err-seen c =
+    handed_on c.from_residual.ensures.1 ∙ check_chunks c.args.samples.now c.if-samples-lt8.false c.in_err-seen.ensures

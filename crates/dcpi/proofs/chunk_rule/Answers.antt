@@ -4,5 +4,5 @@ use Rattle.dcpi.proofs.chunk_rule.Goals as goal
 
 pub returns : goal.returns
 returns c =
-    chunk_rule_is c.args.samples.now c.args.p c.packed_u32-offset.result c.packed_u32-size.result c.requires
-    c.packed_u32-offset.ensures c.packed_u32-size.ensures
+    chunk_rule_is c.args.samples.now c.args.p c.load_u32-offset.result c.load_u32-size.result c.requires
+    c.load_u32-offset.ensures c.load_u32-size.ensures

@@ -1,21 +1,17 @@
 -- By whether the section passes its check.
 use mathlib.Core.Path.{sym, ◌∙◌}
-use Rattle.refusal.specs.Check.{if_passed}
+use Rattle.refusal.specs.Check.{on_answer}
+use Rattle.refusal.proofs.Checks.{handed_on}
 use Rattle.dcpi.specs.Answers.{sample_lookup}
 use Rattle.dcpi.proofs.lookup.Goals as goal
 
 pub find-requires : goal.find-requires
-find-requires c =
-    sym c.check-check.ensures ∙ c.in-Passed.is
+find-requires c = sym c.in_ok-check.ensures
 
-pub returns-in-Passed : goal.returns-in-Passed
-unfolding sample_lookup if_passed
-returns-in-Passed c =
-    let passed = sym c.check-check.ensures ∙ c.in-Passed.is in
-    rw passed c.find.ensures
+pub returns : goal.returns
+unfolding sample_lookup on_answer
+returns c = rw (← c.in_ok-check.ensures, c.find.ensures)
 
-pub returns-in-Refused : goal.returns-in-Refused
-unfolding sample_lookup if_passed
-returns-in-Refused c =
-    let refused = sym c.check-check.ensures ∙ c.in-Refused.is in
-    rw refused
+pub returns-in_err-check : goal.returns-in_err-check
+unfolding sample_lookup on_answer
+returns-in_err-check c = handed_on c.from_residual.ensures.1 ∙ (rw (← c.in_err-check.ensures))

@@ -6,7 +6,6 @@ use mathlib.Core.Path.{◌≡◌, sym, ◌∙◌}
 use native.Mathlib.Omega.{arith}
 use lib.ListN.{length}
 use Rattle.le.specs.Number.{number}
-use Rattle.refusal.proofs.Checks.{not_both}
 use Rattle.dcpi.specs.Samples.{spacing, totals_at, chunk_at, counts_from, non_zero, sum_of}
 use Rattle.dcpi.specs.Check.{chunk_rule}
 use Rattle.dcpi.specs.Facts.{ChunkKept}
@@ -39,98 +38,88 @@ loop-p-init c = pass_none c.args.samples.now
 pub returns-then-not-chunk_rule : goal.returns-then-not-chunk_rule
 returns-then-not-chunk_rule c =
     let broken = sym c.chunk_rule.ensures ∙ c.if-not-chunk_rule.true in
-    record {
-      check = c.refused.ensures ∙ pass_7 c.args.samples.now c.loop-p.invariant c.loop-p-test.true broken;
-      nonzero = λ e. absurd (not_both (sym e ∙ c.refused.ensures));
-      sum = λ e. absurd (not_both (sym e ∙ c.refused.ensures));
-    }
+    sym (pass_7 c.args.samples.now c.loop-p.invariant c.loop-p-test.true broken)
 
 pub returns-then-offset-least : goal.returns-then-offset-least
 returns-then-offset-least c =
     let rule_holds = sym c.chunk_rule.ensures ∙ c.if-not-chunk_rule.false in
-    record {
-      check =
-          c.refused-then-offset-least.ensures
-          ∙ pass_11 c.args.samples.now c.loop-p.invariant c.loop-p-test.true rule_holds
-          (omega (arith, c.packed_u32-offset.ensures, c.if-offset-least.true));
-      nonzero = λ e. absurd (not_both (sym e ∙ c.refused-then-offset-least.ensures));
-      sum = λ e. absurd (not_both (sym e ∙ c.refused-then-offset-least.ensures));
-    }
+    sym (pass_11 c.args.samples.now c.loop-p.invariant c.loop-p-test.true rule_holds
+    (omega (arith, c.load_u32-offset.ensures, c.if-offset-least.true)))
 
 pub chunk_sums-chunk-requires : goal.chunk_sums-chunk-requires
 chunk_sums-chunk-requires c =
     let before = ends c.args.samples.now c.loop-p.invariant c.loop-p-test.true c.chunk_rule.ensures c.if-not-chunk_rule.false
-    c.packed_u32-offset.ensures c.packed_u32-size.ensures in
-    record { n_in_bounds = omega (arith, before); n_bound = omega (arith, c.packed_u32-size.type_inv) }
+    c.load_u32-offset.ensures c.load_u32-size.ensures in
+    record { n_in_bounds = omega (arith, before); n_bound = omega (arith, c.load_u32-size.type_inv) }
 
 pub overflow_add-nonzero : goal.overflow_add-nonzero
 overflow_add-nonzero c =
     let next = more c.args.samples.now c.loop-p.invariant c.loop-p-test.true c.chunk_rule.ensures c.if-not-chunk_rule.false
-    c.packed_u32-offset.ensures c.packed_u32-size.ensures c.if-offset-least.false
+    c.load_u32-offset.ensures c.load_u32-size.ensures c.if-offset-least.false
     c.chunk_sums-chunk.ensures.nonzero c.chunk_sums-chunk.ensures.sum c.chunk_sums-chunk.ensures.few c.chunk_sums-chunk.ensures.small in
     omega (arith, next.few, next.least_small)
 
 pub overflow_add-sum : goal.overflow_add-sum
 overflow_add-sum c =
     let next = more c.args.samples.now c.loop-p.invariant c.loop-p-test.true c.chunk_rule.ensures c.if-not-chunk_rule.false
-    c.packed_u32-offset.ensures c.packed_u32-size.ensures c.if-offset-least.false
+    c.load_u32-offset.ensures c.load_u32-size.ensures c.if-offset-least.false
     c.chunk_sums-chunk.ensures.nonzero c.chunk_sums-chunk.ensures.sum c.chunk_sums-chunk.ensures.few c.chunk_sums-chunk.ensures.small in
     omega (arith, next.small, next.least_small)
 
 pub overflow_sub-least : goal.overflow_sub-least
 overflow_sub-least c =
     size_one c.args.samples.now c.loop-p.invariant c.loop-p-test.true c.chunk_rule.ensures c.if-not-chunk_rule.false
-    c.packed_u32-offset.ensures c.packed_u32-size.ensures
+    c.load_u32-offset.ensures c.load_u32-size.ensures
 
 pub overflow_mul-least : goal.overflow_mul-least
 overflow_mul-least c =
-    omega (arith, c.packed_u32-size.type_inv)
+    omega (arith, c.load_u32-size.type_inv)
 
 pub overflow_add-least : goal.overflow_add-least
 overflow_add-least c =
     let next = more c.args.samples.now c.loop-p.invariant c.loop-p-test.true c.chunk_rule.ensures c.if-not-chunk_rule.false
-    c.packed_u32-offset.ensures c.packed_u32-size.ensures c.if-offset-least.false
+    c.load_u32-offset.ensures c.load_u32-size.ensures c.if-offset-least.false
     c.chunk_sums-chunk.ensures.nonzero c.chunk_sums-chunk.ensures.sum c.chunk_sums-chunk.ensures.few c.chunk_sums-chunk.ensures.small in
     omega (arith, next.least_small)
 
 pub overflow_add-least-in-loop-p : goal.overflow_add-least-in-loop-p
 overflow_add-least-in-loop-p c =
     let next = more c.args.samples.now c.loop-p.invariant c.loop-p-test.true c.chunk_rule.ensures c.if-not-chunk_rule.false
-    c.packed_u32-offset.ensures c.packed_u32-size.ensures c.if-offset-least.false
+    c.load_u32-offset.ensures c.load_u32-size.ensures c.if-offset-least.false
     c.chunk_sums-chunk.ensures.nonzero c.chunk_sums-chunk.ensures.sum c.chunk_sums-chunk.ensures.few c.chunk_sums-chunk.ensures.small in
     omega (arith, next.least_small)
 
 pub overflow_add-p-in-loop-p-2 : goal.overflow_add-p-in-loop-p-2
 overflow_add-p-in-loop-p-2 c =
     let before = ends c.args.samples.now c.loop-p.invariant c.loop-p-test.true c.chunk_rule.ensures c.if-not-chunk_rule.false
-    c.packed_u32-offset.ensures c.packed_u32-size.ensures in
+    c.load_u32-offset.ensures c.load_u32-size.ensures in
     omega (arith, before)
 
 pub overflow_mul-p : goal.overflow_mul-p
 overflow_mul-p c =
     let before = ends c.args.samples.now c.loop-p.invariant c.loop-p-test.true c.chunk_rule.ensures c.if-not-chunk_rule.false
-    c.packed_u32-offset.ensures c.packed_u32-size.ensures in
+    c.load_u32-offset.ensures c.load_u32-size.ensures in
     omega (arith, before)
 
 pub overflow_add-p-in-loop-p-3 : goal.overflow_add-p-in-loop-p-3
 overflow_add-p-in-loop-p-3 c =
     let before = ends c.args.samples.now c.loop-p.invariant c.loop-p-test.true c.chunk_rule.ensures c.if-not-chunk_rule.false
-    c.packed_u32-offset.ensures c.packed_u32-size.ensures in
+    c.load_u32-offset.ensures c.load_u32-size.ensures in
     omega (arith, before)
 
 pub loop-p-smaller : goal.loop-p-smaller
 loop-p-smaller c =
     let before = ends c.args.samples.now c.loop-p.invariant c.loop-p-test.true c.chunk_rule.ensures c.if-not-chunk_rule.false
-    c.packed_u32-offset.ensures c.packed_u32-size.ensures in
+    c.load_u32-offset.ensures c.load_u32-size.ensures in
     omega (arith, before)
 
 pub loop-p-preserved : goal.loop-p-preserved
 loop-p-preserved c =
     more c.args.samples.now c.loop-p.invariant c.loop-p-test.true c.chunk_rule.ensures c.if-not-chunk_rule.false
-    c.packed_u32-offset.ensures c.packed_u32-size.ensures c.if-offset-least.false
+    c.load_u32-offset.ensures c.load_u32-size.ensures c.if-offset-least.false
     c.chunk_sums-chunk.ensures.nonzero c.chunk_sums-chunk.ensures.sum c.chunk_sums-chunk.ensures.few c.chunk_sums-chunk.ensures.small
 
 pub returns : goal.returns
 returns c =
     let all = pass_all c.args.samples.now c.loop-p.invariant c.loop-p-test.false in
-    record { check = all.0; nonzero = λ e. all.1.0; sum = λ e. all.1.1 }
+    (sym all.0, all.1.0, all.1.1)

@@ -17,40 +17,40 @@ loop-p-init c =
 
 pub overflow_add-p-in-loop-p : goal.overflow_add-p-in-loop-p
 overflow_add-p-in-loop-p c =
-    omega (arith, chunks_inside _ _ _ _ c.loop-p.invariant c.loop-p-test.true c.packed_u32-offset.ensures c.packed_u32-size.ensures)
+    omega (arith, chunks_inside _ _ _ _ c.loop-p.invariant c.loop-p-test.true c.load_u32-offset.ensures c.load_u32-size.ensures)
 
 pub put_counts-next-requires : goal.put_counts-next-requires
 put_counts-next-requires c = record {
   n_in_bounds =
-      omega (arith, chunks_inside _ _ _ _ c.loop-p.invariant c.loop-p-test.true c.packed_u32-offset.ensures c.packed_u32-size.ensures);
-  spacing_bound = chunks_reach _ _ _ _ c.loop-p.invariant c.loop-p-test.true c.packed_u32-offset.ensures c.packed_u32-size.ensures;
+      omega (arith, chunks_inside _ _ _ _ c.loop-p.invariant c.loop-p-test.true c.load_u32-offset.ensures c.load_u32-size.ensures);
+  spacing_bound = chunks_reach _ _ _ _ c.loop-p.invariant c.loop-p-test.true c.load_u32-offset.ensures c.load_u32-size.ensures;
   n_bound =
       rw c.requires.count_value
-      (chunks_room _ _ _ _ c.loop-p.invariant c.loop-p-test.true c.packed_u32-offset.ensures c.packed_u32-size.ensures);
+      (chunks_room _ _ _ _ c.loop-p.invariant c.loop-p-test.true c.load_u32-offset.ensures c.load_u32-size.ensures);
   at_value = rw c.requires.count_value (chunks_whole _ _ _ _ c.loop-p.invariant);
   end_in_bounds = omega (arith, c.requires.count_in_bounds, c.loop-p.invariant.same_length);
 }
 
 pub overflow_add-p-in-loop-p-2 : goal.overflow_add-p-in-loop-p-2
 overflow_add-p-in-loop-p-2 c =
-    omega (arith, chunks_inside _ _ _ _ c.loop-p.invariant c.loop-p-test.true c.packed_u32-offset.ensures c.packed_u32-size.ensures)
+    omega (arith, chunks_inside _ _ _ _ c.loop-p.invariant c.loop-p-test.true c.load_u32-offset.ensures c.load_u32-size.ensures)
 
 pub overflow_mul-p : goal.overflow_mul-p
 overflow_mul-p c =
-    omega (arith, chunks_inside _ _ _ _ c.loop-p.invariant c.loop-p-test.true c.packed_u32-offset.ensures c.packed_u32-size.ensures)
+    omega (arith, chunks_inside _ _ _ _ c.loop-p.invariant c.loop-p-test.true c.load_u32-offset.ensures c.load_u32-size.ensures)
 
 pub overflow_add-p-in-loop-p-3 : goal.overflow_add-p-in-loop-p-3
 overflow_add-p-in-loop-p-3 c =
-    omega (arith, chunks_inside _ _ _ _ c.loop-p.invariant c.loop-p-test.true c.packed_u32-offset.ensures c.packed_u32-size.ensures)
+    omega (arith, chunks_inside _ _ _ _ c.loop-p.invariant c.loop-p-test.true c.load_u32-offset.ensures c.load_u32-size.ensures)
 
 pub loop-p-smaller : goal.loop-p-smaller
 loop-p-smaller c =
-    omega (arith, chunks_inside _ _ _ _ c.loop-p.invariant c.loop-p-test.true c.packed_u32-offset.ensures c.packed_u32-size.ensures)
+    omega (arith, chunks_inside _ _ _ _ c.loop-p.invariant c.loop-p-test.true c.load_u32-offset.ensures c.load_u32-size.ensures)
 
 pub loop-p-preserved : goal.loop-p-preserved
 loop-p-preserved c =
     let put = c.put_counts-next in
-    chunks_step _ _ _ _ c.loop-p.invariant c.loop-p-test.true c.packed_u32-offset.ensures c.packed_u32-size.ensures put.ensures.next
+    chunks_step _ _ _ _ c.loop-p.invariant c.loop-p-test.true c.load_u32-offset.ensures c.load_u32-size.ensures put.ensures.next
     (λ rest e. put.ensures.bytes rest (rw c.requires.count_value e)) put.auto.entries
 
 pub shape_of-entries : goal.shape_of-entries

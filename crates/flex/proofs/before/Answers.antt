@@ -26,5 +26,5 @@ returns-in-4 c =
 
 pub returns-in_default : goal.returns-in_default
 returns-in_default c =
-    let past : 5 ≤ c.args.field = omega (arith, c.in_default.in_default-own.rest) in
+    let past : 5 ≤ c.args.field = omega arith in
     omega (arith, before_all c.args.flags c.args.field past, all c.args.flags)

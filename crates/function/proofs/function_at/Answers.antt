@@ -1,21 +1,22 @@
 -- By whether the file opens.
+use Rattle.refusal.proofs.Checks.{handed_on}
+use Rattle.std.specs.Prelude.{Err}
 use Rattle.function.specs.Function.{function_at}
 use Rattle.open.specs.Format.{meta}
-use Rattle.open.proofs.Answer.{answers, refuses, told_passed}
+use Rattle.open.proofs.Answer.{answers, refuses, sections}
 use mathlib.Core.Path.{◌∙◌}
-use Rattle.function.specs.declared.Function.TheVariants.{Refused}
 use Rattle.function.proofs.function_at.Goals as goal
 
 pub function_in-requires : goal.function_in-requires
 function_in-requires c =
-    told_passed meta _ c.meta_sections-sections.ensures c.check_meta-check.ensures c.in-Passed.is
+    sections c.in_ok-sections.ensures
 
-pub returns-in-Passed : goal.returns-in-Passed
+pub returns : goal.returns
 unfolding function_at
-returns-in-Passed c =
-    c.function_in.ensures ∙ answers meta _ c.meta_sections-sections.ensures c.check_meta-check.ensures Refused _ c.in-Passed.is
+returns c =
+    c.function_in.ensures ∙ answers meta _ Err _ c.in_ok-sections.ensures
 
-pub returns-in-Refused : goal.returns-in-Refused
+pub returns-in_err-sections : goal.returns-in_err-sections
 unfolding function_at
-returns-in-Refused c =
-    refuses meta _ c.meta_sections-sections.ensures c.check_meta-check.ensures Refused _ _ c.in-Refused.is
+returns-in_err-sections c =
+    handed_on c.from_residual.ensures.1 ∙ refuses meta _ Err _ c.in_err-sections.ensures

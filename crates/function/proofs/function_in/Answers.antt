@@ -1,7 +1,9 @@
 -- By whether the element is there; the arrays' headers stand in the file, which opens.
+use mathlib.Core.Path.{◌∙◌}
+use Rattle.refusal.proofs.Checks.{handed_on}
+use Rattle.refusal.specs.Check.{on_answer}
 use Rattle.open.specs.Format.{meta}
 use Rattle.open.specs.Names as Section
-use Rattle.array.specs.Element.{on_element}
 use Rattle.array.proofs.Bounds.{header_in, bounded}
 use native.Mathlib.Omega.{arith}
 use Rattle.function.proofs.function_in.Goals as goal
@@ -22,19 +24,19 @@ pub nth-requires : goal.nth-requires
 nth-requires c =
     bounded meta c.args.file.now (omega arith) c.requires Section.functions (omega arith) c.of_specs-functions.ensures
 
-pub returns-in-At : goal.returns-in-At
-unfolding on_element
-returns-in-At c =
+pub returns : goal.returns
+unfolding on_answer
+returns c =
     rw (
       c.function_of.ensures,
       ← c.of_specs-modules.ensures,
       ← c.of_specs-files.ensures,
       ← c.of_specs-functions.ensures,
       ← c.nth.ensures,
-      c.in-At.is,
+      c.in_ok-at.was,
     )
 
-pub returns-in-Refused : goal.returns-in-Refused
-unfolding on_element
-returns-in-Refused c =
-    rw (← c.of_specs-functions.ensures, ← c.nth.ensures, c.in-Refused.is)
+pub returns-in_err-at : goal.returns-in_err-at
+unfolding on_answer
+returns-in_err-at c =
+    handed_on c.from_residual.ensures.1 ∙ (rw (← c.of_specs-functions.ensures, ← c.nth.ensures, c.in_err-at.was))

@@ -1,23 +1,14 @@
 -- Along the array: the lead among the contexts passed.
-use Prim.Native.Nat.{ℕ, ◌<◌}
-use mathlib.Core.List.{[]}
-use mathlib.Core.Path.{◌≡◌, refl, sym, ◌∙◌}
+use Rattle.std.specs.Prelude.{Ok}
+use Prim.Native.Nat.{◌<◌}
+use mathlib.Core.Path.{sym, ap, ◌∙◌}
 use native.Mathlib.Omega.{arith}
-use Rattle.block.specs.declared.Lookup.{Lookup}
-use Rattle.block.specs.declared.Lookup.TheVariants.{Found, Absent, Refused}
 use Rattle.hot_path.specs.HotPath.{candidate}
 use Rattle.context.specs.Context.{children_end}
 use Rattle.hot_path.proofs.Seeking.{place_read, end_read, value_read}
-use Rattle.hot_path.proofs.Seeking.{seeking_start, seeking_fits, seeking_none, seeking_more, seeking_not, seeking_nowhere, seeking_at}
+use Rattle.hot_path.proofs.Seeking.{seeking_start, seeking_fits, seeking_none, seeking_more, seeking_not, seeking_all}
 use Rattle.hot_path.proofs.hottest_at.Goals as goal
-use Rattle.hot_path.proofs.hottest_at.Goals.{in-Found+else-not-is_finite, in_default}
-
--- an answer that is not found has no value
-no_candidate : (p : ℕ) (a : Lookup) → ((bits : ℕ) → a ≡ Found bits → ⊥) → candidate p a ≡ []
-unfolding candidate
-no_candidate p (Found bits) h = absurd (h bits refl)
-no_candidate p Absent h = refl
-no_candidate p (Refused r) h = refl
+use Rattle.hot_path.proofs.hottest_at.Goals.{in-Some+else-not-is_finite, in_default}
 
 pub load_u64-bytes-requires : goal.load_u64-bytes-requires
 load_u64-bytes-requires c =
@@ -48,21 +39,21 @@ load_u32-id-requires c =
     let fits = seeking_fits c.args.meta.now _ c.args.at c.loop-p.invariant.1 (omega (arith, c.loop-p.invariant.0, c.loop-p-test.true)) in
     omega (arith, fits, c.requires.array_inside.ends)
 
-pub find_near-answer-requires : goal.find_near-answer-requires
-find_near-answer-requires c =
+pub find_near-found-requires : goal.find_near-found-requires
+find_near-found-requires c =
     rw c.profile_shape-h.ensures c.requires.sound_block
 
 pub returns-then-not-is_finite : goal.returns-then-not-is_finite
 returns-then-not-is_finite c =
-    let e = value_read c.args.db.now c.args.b c.args.meta.now c.loop-p.p c.args.metric c.find_near-answer.ensures c.profile_shape-h.ensures c.load_u32-id.ensures in
-    sym (seeking_not c.args.meta.now _ c.args.at c.loop-p.invariant.1 (omega (arith, c.loop-p.invariant.0, c.loop-p-test.true)) _ (e ∙ c.in-Found.is)
+    let e = value_read c.args.db.now c.args.b c.args.meta.now c.loop-p.p c.args.metric c.find_near-found.ensures c.profile_shape-h.ensures c.load_u32-id.ensures in
+    sym (seeking_not c.args.meta.now _ c.args.at c.loop-p.invariant.1 (omega (arith, c.loop-p.invariant.0, c.loop-p-test.true)) _ (e ∙ ap Ok c.in-Some.is)
     (sym c.is_finite.ensures ∙ c.if-not-is_finite.true))
 
 pub lead_with-lead-requires : goal.lead_with-lead-requires
 lead_with-lead-requires c =
     record {
-      bits_value = c.loop-p.invariant.1.leads.lead_finite;
-      bits_value_2 = sym c.is_finite.ensures ∙ c.if-not-is_finite.false;
+      lead_value = c.loop-p.invariant.1.leads.lead_finite;
+      bits_value = sym c.is_finite.ensures ∙ c.if-not-is_finite.false;
     }
 
 pub extent-p-requires : goal.extent-p-requires
@@ -81,24 +72,24 @@ loop-p-smaller c =
     omega (arith, fits, c.extent-p.ensures, c.loop-p-test.true)
 
 pub loop-p-preserved : goal.loop-p-preserved
+unfolding candidate
 loop-p-preserved c =
-    let e = value_read c.args.db.now c.args.b c.args.meta.now c.loop-p.p c.args.metric c.find_near-answer.ensures c.profile_shape-h.ensures c.load_u32-id.ensures in
+    let e = value_read c.args.db.now c.args.b c.args.meta.now c.loop-p.p c.args.metric c.find_near-found.ensures c.profile_shape-h.ensures c.load_u32-id.ensures in
     let below : c.loop-p.p < children_end c.args.meta.now c.args.at = omega (arith, c.loop-p.invariant.0, c.loop-p-test.true) in (
       c.loop-p.invariant.0,
-      rw c.extent-p.ensures (elim c.match-answer.branch [
-        | in-Found+else-not-is_finite w ↦ rw (w.lead-is, w.lead_with-lead.ensures)
-            (seeking_more c.args.meta.now _ c.args.at c.loop-p.invariant.1 below _ (e ∙ w.in-Found.is)
+      rw c.extent-p.ensures (elim c.match-found.branch [
+        | in-Some+else-not-is_finite w ↦ rw (w.lead-is, w.lead_with-lead.ensures)
+            (seeking_more c.args.meta.now _ c.args.at c.loop-p.invariant.1 below _ (e ∙ ap Ok w.in-Some.is)
             (sym w.is_finite.ensures ∙ w.if-not-is_finite.false))
         | in_default w ↦ rw w.lead-is
-            (seeking_none c.args.meta.now _ c.args.at c.loop-p.invariant.1 below
-            (rw e (no_candidate c.loop-p.p c.find_near-answer.result w.in_default.not-Found)))
+            (seeking_none c.args.meta.now _ c.args.at c.loop-p.invariant.1 below (rw (e, w.in_default.is)))
       ]),
     )
 
-pub returns-then-lead : goal.returns-then-lead
-returns-then-lead c =
-    sym (seeking_at c.args.meta.now _ c.args.at c.loop-p.invariant.1 (omega (arith, c.loop-p.invariant.0, c.loop-p-test.false)) c.if-lead.true)
+pub returns-in_default-lead : goal.returns-in_default-lead
+returns-in_default-lead c =
+    sym (rw c.in_default-lead.is at (seeking_all c.args.meta.now _ c.args.at _ c.loop-p.invariant.1 (omega (arith, c.loop-p.invariant.0, c.loop-p-test.false))))
 
 pub returns : goal.returns
 returns c =
-    sym (seeking_nowhere c.args.meta.now _ c.args.at c.loop-p.invariant.1 (omega (arith, c.loop-p.invariant.0, c.loop-p-test.false)) c.if-lead.false)
+    sym (rw c.in-Some-lead.is at (seeking_all c.args.meta.now _ c.args.at _ c.loop-p.invariant.1 (omega (arith, c.loop-p.invariant.0, c.loop-p-test.false))))

@@ -3,4 +3,4 @@ use Rattle.hpcdb.proofs.hpcdb_cct_open.Goals as goal
 
 pub returns : goal.returns
 returns c =
-    record { value = rw (← c.contexts.ensures) c.put_count.ensures.value; out_after = rw (← c.contexts.ensures) c.put_count.ensures.out_after }
+    record { value = rw (← c.contexts.ensures) c.put.ensures.value; out_after = rw (← c.contexts.ensures) c.put.ensures.out_after }

@@ -4,7 +4,7 @@ use Rattle.hpcdb.proofs.hpcdb_dcpi_entries.Goals as goal
 pub returns : goal.returns
 returns c =
     record {
-      code = rw (← c.list.ensures.answer) c.put_entry_count.ensures.value;
-      words = rw (← c.list.ensures.answer) c.put_entry_count.ensures.out_after;
+      code = rw (← c.list.ensures.answer) c.put.ensures.value;
+      words = rw (← c.list.ensures.answer) c.put.ensures.out_after;
       bytes = c.list.ensures.bytes;
     }

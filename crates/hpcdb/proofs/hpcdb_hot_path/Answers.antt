@@ -6,6 +6,6 @@ use Rattle.hpcdb.proofs.hpcdb_hot_path.Goals as goal
 pub returns : goal.returns
 returns c =
     record {
-      code = leaves_said hot_path_code c.put_hot_path.ensures.value c.find.ensures;
-      words = rw (← c.find.ensures.answers) c.put_hot_path.ensures.out_after;
+      code = leaves_said hot_path_code c.put.ensures.value c.find.ensures;
+      words = rw (← c.find.ensures.answers) c.put.ensures.out_after;
     }

@@ -1,21 +1,15 @@
--- By the refusal.
-use Rattle.hpcdb.proofs.Laws.{code_small, counts_told, counts_refused}
+-- By whether the file opens.
+use mathlib.Core.Path.{sym, ◌∙◌}
 use Rattle.words.proofs.Laws.{answered}
-use Rattle.open.specs.Format.{meta}
-use Rattle.open.specs.Opening.{opening}
-use native.Mathlib.Omega.{arith}
+use Rattle.hpcdb.proofs.Laws.{counts_told, counts_refused}
 use Rattle.hpcdb.proofs.hpcdb_meta_counts.Goals as goal
 
-pub overflow_cast-result : goal.overflow_cast-result
-overflow_cast-result c =
-    omega (arith, c.counts-counts.ensures.refusal_after, code_small (opening meta c.args.file.now))
-
-pub returns-then-refusal-ne0 : goal.returns-then-refusal-ne0
-returns-then-refusal-ne0 c =
-    let all = counts_refused c.args.file.now c.counts-counts.ensures.refusal_after c.if-refusal-ne0.true c.args.out.now in
+pub returns-in-Ok : goal.returns-in-Ok
+returns-in-Ok c =
+    let all = answered c.args.out.now (counts_told c.args.file.now (sym c.in-Ok.is ∙ c.counts.ensures)) in
     record { value = all.0; out_after = all.1 }
 
-pub returns : goal.returns
-returns c =
-    let all = answered c.args.out.now (counts_told c.args.file.now c.counts-counts.ensures.refusal_after c.if-refusal-ne0.false) in
-    record { value = all.0; out_after = rw c.counts-counts.ensures.value all.1 }
+pub returns-in-Err : goal.returns-in-Err
+returns-in-Err c =
+    let all = counts_refused c.args.file.now (sym c.in-Err.is ∙ c.counts.ensures) c.from.ensures c.args.out.now in
+    record { value = all.0; out_after = all.1 }

@@ -3,4 +3,4 @@ use Rattle.hpcdb.proofs.hpcdb_meta_description.Goals as goal
 
 pub returns : goal.returns
 returns c =
-    record { value = rw (← c.description_at.ensures) c.put_text.ensures.value; out_after = rw (← c.description_at.ensures) c.put_text.ensures.out_after }
+    record { value = rw (← c.description_at.ensures) c.put.ensures.value; out_after = rw (← c.description_at.ensures) c.put.ensures.out_after }

@@ -3,4 +3,4 @@ use Rattle.hpcdb.proofs.hpcdb_meta_file.Goals as goal
 
 pub returns : goal.returns
 returns c =
-    record { value = rw (← c.source_file.ensures) c.put_source.ensures.value; out_after = rw (← c.source_file.ensures) c.put_source.ensures.out_after }
+    record { value = rw (← c.source_file.ensures) c.put.ensures.value; out_after = rw (← c.source_file.ensures) c.put.ensures.out_after }

@@ -3,4 +3,4 @@ use Rattle.hpcdb.proofs.hpcdb_meta_metric.Goals as goal
 
 pub returns : goal.returns
 returns c =
-    record { value = rw (← c.metric_at.ensures) c.put_metric.ensures.value; out_after = rw (← c.metric_at.ensures) c.put_metric.ensures.out_after }
+    record { value = rw (← c.metric_at.ensures) c.put.ensures.value; out_after = rw (← c.metric_at.ensures) c.put.ensures.out_after }

@@ -1,14 +1,15 @@
 -- By whether the file opens.
-use Rattle.hpcdb.proofs.Laws.{sections_flat, sections_answered, sections_refused}
+use mathlib.Core.Path.{sym, ◌∙◌}
 use Rattle.open.specs.Format as Format
+use Rattle.hpcdb.proofs.Laws.{sections_flat, sections_answered, sections_refused}
 use Rattle.hpcdb.proofs.hpcdb_meta_open.Goals as goal
 
-pub returns-in-Passed : goal.returns-in-Passed
-returns-in-Passed c =
-    let all = sections_answered _ Format.meta c.meta_sections-s.ensures c.check_meta-check.ensures c.args.out.now c.in-Passed.is (sections_flat _ _) in
+pub returns-in-Ok : goal.returns-in-Ok
+returns-in-Ok c =
+    let all = sections_answered _ Format.meta c.args.out.now (sym c.in-Ok.is ∙ c.open_meta.ensures) (sections_flat _ _) in
     record { value = all.0; out_after = all.1 }
 
-pub returns-in-Refused : goal.returns-in-Refused
-returns-in-Refused c =
-    let all = sections_refused _ Format.meta c.meta_sections-s.ensures c.check_meta-check.ensures c.args.out.now _ c.in-Refused.is c.code.ensures in
+pub returns-in-Err : goal.returns-in-Err
+returns-in-Err c =
+    let all = sections_refused _ Format.meta c.args.out.now (sym c.in-Err.is ∙ c.open_meta.ensures) c.from.ensures in
     record { value = all.0; out_after = all.1 }

@@ -3,4 +3,4 @@ use Rattle.hpcdb.proofs.hpcdb_meta_summary.Goals as goal
 
 pub returns : goal.returns
 returns c =
-    record { value = rw (← c.summary_at.ensures) c.put_summary.ensures.value; out_after = rw (← c.summary_at.ensures) c.put_summary.ensures.out_after }
+    record { value = rw (← c.summary_at.ensures) c.put.ensures.value; out_after = rw (← c.summary_at.ensures) c.put.ensures.out_after }

@@ -3,4 +3,4 @@ use Rattle.hpcdb.proofs.hpcdb_trace_sample.Goals as goal
 
 pub returns : goal.returns
 returns c =
-    record { value = rw (← c.sample_at.ensures) c.put_sample.ensures.value; out_after = rw (← c.sample_at.ensures) c.put_sample.ensures.out_after }
+    record { value = rw (← c.sample_at.ensures) c.put.ensures.value; out_after = rw (← c.sample_at.ensures) c.put.ensures.out_after }

@@ -1,14 +1,15 @@
 -- By whether the file opens.
-use Rattle.hpcdb.proofs.Laws.{one_flat, sections_answered, sections_refused}
+use mathlib.Core.Path.{sym, ◌∙◌}
 use Rattle.open.specs.Format as Format
+use Rattle.hpcdb.proofs.Laws.{one_flat, sections_answered, sections_refused}
 use Rattle.hpcdb.proofs.hpcdb_trace_sections.Goals as goal
 
-pub returns-in-Passed : goal.returns-in-Passed
-returns-in-Passed c =
-    let all = sections_answered _ Format.trace c.single_section-s.ensures.value_2 c.check_trace-check.ensures c.args.out.now c.in-Passed.is (one_flat _ _ _ _ _) in
+pub returns-in-Ok : goal.returns-in-Ok
+returns-in-Ok c =
+    let all = sections_answered _ Format.trace c.args.out.now (sym c.in-Ok.is ∙ c.open_trace.ensures) (one_flat _ _ _ _ _) in
     record { value = all.0; out_after = all.1 }
 
-pub returns-in-Refused : goal.returns-in-Refused
-returns-in-Refused c =
-    let all = sections_refused _ Format.trace c.single_section-s.ensures.value_2 c.check_trace-check.ensures c.args.out.now _ c.in-Refused.is c.code.ensures in
+pub returns-in-Err : goal.returns-in-Err
+returns-in-Err c =
+    let all = sections_refused _ Format.trace c.args.out.now (sym c.in-Err.is ∙ c.open_trace.ensures) c.from.ensures in
     record { value = all.0; out_after = all.1 }

@@ -1,21 +1,29 @@
 -- By the answer.
-use mathlib.Core.Path.{refl}
+use mathlib.Core.Path.{◌≡◌, refl, ◌∙◌}
+use Rattle.std.specs.Prelude.{ℕ, List, Option, Ok}
 use Rattle.hpcdb.specs.Value.{value_in}
-use Rattle.block.specs.Block.{lookup_words}
+use Rattle.block.specs.Block.{found_words, lookup_words}
+use Rattle.refusal.specs.Check.{Answer}
 use Rattle.refusal.specs.Words.{code_in}
 use Rattle.hpcdb.proofs.put_value.Goals as goal
 
-pub returns-in-Found : goal.returns-in-Found
-unfolding lookup_words code_in value_in
-returns-in-Found c =
-    record { value = rw c.in-Found.is refl; out_after = rw c.in-Found.is c.store_u64.ensures }
+-- what is said of an answer is said of the one that it is
+told : (was : List ℕ) {answer : Answer (Option ℕ)} {found same : Option ℕ} → answer ≡ Ok found → found ≡ same
+    → (code_in (lookup_words (Ok same)) ≡ code_in (lookup_words answer)) × (value_in was (Ok same) ≡ value_in was answer)
+told was e f = (rw (e, f) refl, rw (e, f) refl)
 
-pub returns-in-Absent : goal.returns-in-Absent
-unfolding lookup_words code_in value_in
-returns-in-Absent c =
-    record { value = rw c.in-Absent.is refl; out_after = rw c.in-Absent.is refl }
+pub returns-in-Ok-Some : goal.returns-in-Ok-Some
+unfolding found_words lookup_words code_in value_in
+returns-in-Ok-Some c =
+    let t = told c.args.out.now c.in-Ok-Some.is (rw c.in-Ok-Some.is at c.in-Ok-Some.field-0-is) in
+    record { value = t.0; out_after = c.store_u64.ensures ∙ t.1 }
 
-pub returns-in-Refused : goal.returns-in-Refused
-unfolding lookup_words code_in value_in
-returns-in-Refused c =
-    record { value = rw c.in-Refused.is c.code.ensures; out_after = rw c.in-Refused.is refl }
+pub returns-in-Ok-None : goal.returns-in-Ok-None
+unfolding found_words lookup_words code_in value_in
+returns-in-Ok-None c =
+    let t = told c.args.out.now c.in-Ok-None.is (rw c.in-Ok-None.is at c.in-Ok-None.field-0-is) in
+    record { value = t.0; out_after = t.1 }
+
+pub returns-in-Err : goal.returns-in-Err
+unfolding lookup_words found_words code_in value_in
+returns-in-Err c = record { value = rw c.in-Err.is c.from.ensures; out_after = rw c.in-Err.is refl }

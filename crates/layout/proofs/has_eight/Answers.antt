@@ -8,4 +8,4 @@ use Rattle.layout.proofs.has_eight.Goals as goal
 pub returns : goal.returns
 returns c =
     let l : length c.args.text.now ≡ 8 = search rules in
-    c.same_u64.ensures ∙ all_stand c.args.file.now c.args.at c.args.text.now 8 l
+    c.same_eight.ensures ∙ all_stand c.args.file.now c.args.at c.args.text.now 8 l

@@ -1,4 +1,4 @@
--- Eight bytes, four and two.
+-- Twice eight bytes, two of them in both.
 use Rattle.layout.proofs.Words.{fourteen_stand}
 use mathlib.Core.Path.{◌≡◌}
 use lib.ListN.{length}
@@ -8,5 +8,5 @@ use Rattle.layout.proofs.has_fourteen.Goals as goal
 pub returns : goal.returns
 returns c =
     let l : length c.args.text.now ≡ 14 = search rules in
-    rw (c.same_u64.ensures, c.same_u32.ensures, c.same_u16.ensures)
+    rw (c.same_eight.ensures, c.same_eight-2.ensures)
     (fourteen_stand c.args.file.now c.args.at c.args.text.now l)

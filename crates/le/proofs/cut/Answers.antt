@@ -1,11 +1,8 @@
--- Past the end one place reads as another.
-use Rattle.le.proofs.Laws.{clamped}
-use mathlib.Core.Path.{◌∙◌}
+-- What stands there of the file, and zeros.
+use Rattle.std.proofs.Common.{◌+◌}
+use Rattle.le.proofs.Laws.{filled}
 use Rattle.le.proofs.cut.Goals as goal
 
 pub returns : goal.returns
-returns c =
-    record {
-      value = c.bytewise.ensures.value ∙ clamped _ _ _ _ c.place_in.ensures;
-      upper_bound = c.bytewise.ensures.upper_bound;
-    }
+returns g c =
+    filled _ _ c.args.file.now (c.args.at + c.args.offset) c.copy_from_slice.ensures.after c.min-n.ensures c.place_in-from.ensures

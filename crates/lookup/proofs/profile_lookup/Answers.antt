@@ -1,19 +1,18 @@
 -- By the block.
-use Rattle.lookup.proofs.Laws.{profile_sound}
-use Rattle.lookup.specs.Lookup.{profile_lookup, on_checked}
 use mathlib.Core.Path.{sym, ◌∙◌}
+use Rattle.refusal.specs.Check.{on_answer}
+use Rattle.refusal.proofs.Checks.{handed_on}
+use Rattle.lookup.specs.Lookup.{profile_lookup}
+use Rattle.lookup.proofs.Laws.{profile_sound}
 use Rattle.lookup.proofs.profile_lookup.Goals as goal
 
 pub find-requires : goal.find-requires
-find-requires c =
-    rw c.profile_shape-h.ensures (profile_sound c.args.file.now c.args.profile _ (sym c.profile_block-checked.ensures ∙ c.in-Valid.is))
+find-requires c = rw c.profile_shape-h.ensures (profile_sound c.args.file.now c.args.profile _ (sym c.in_ok-b.ensures))
 
-pub returns-in-Valid : goal.returns-in-Valid
-unfolding profile_lookup on_checked
-returns-in-Valid c =
-    rw (c.find.ensures, c.profile_shape-h.ensures, ← c.profile_block-checked.ensures, c.in-Valid.is)
+pub returns : goal.returns
+unfolding profile_lookup on_answer
+returns c = rw (c.find.ensures, c.profile_shape-h.ensures, ← c.in_ok-b.ensures)
 
-pub returns-in-Refused : goal.returns-in-Refused
-unfolding profile_lookup on_checked
-returns-in-Refused c =
-    rw (← c.profile_block-checked.ensures, c.in-Refused.is)
+pub returns-in_err-b : goal.returns-in_err-b
+unfolding profile_lookup on_answer
+returns-in_err-b c = handed_on c.from_residual.ensures.1 ∙ (rw (← c.in_err-b.ensures))

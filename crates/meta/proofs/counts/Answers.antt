@@ -1,30 +1,20 @@
--- By whether the file opens; then field by field.
+-- Field by field of a file that opens.
+use mathlib.Core.Path.{◌∙◌}
+use Rattle.refusal.proofs.Checks.{handed_on}
 use Rattle.meta.specs.Names.{counts}
 use Rattle.open.specs.Format.{meta}
-use Rattle.open.proofs.Answer.{answers, refuses, code_is}
-use mathlib.Core.List.{[], ◌∷◌}
+use Rattle.open.proofs.Answer.{answers, refuses}
 use Rattle.open.specs.Opening.{field}
 use Rattle.array.specs.Stored.{array_of}
 use Rattle.meta.proofs.counts.Goals as goal
 
-pub returns-in-Passed : goal.returns-in-Passed
+pub returns : goal.returns
 unfolding counts array_of field
-returns-in-Passed c =
-    record {
-      value = rw (
-        c.u32_at-in-Passed-3.ensures,
-        c.u32_at-in-Passed-2.ensures,
-        c.u32_at-in-Passed.ensures,
-        c.u32_at.ensures,
-        c.u8_at.ensures,
-      ) (answers meta _ c.meta_sections-sections.ensures c.check_meta-check.ensures _ _ c.in-Passed.is);
-      refusal_after = code_is meta _ c.meta_sections-sections.ensures c.check_meta-check.ensures c.code.ensures;
-    }
+returns c =
+    rw (c.u32_at-4.ensures, c.u32_at-3.ensures, c.u32_at-2.ensures, c.u32_at.ensures, c.u8_at.ensures)
+    (answers meta _ _ _ c.in_ok-sections.ensures)
 
-pub returns-in-Refused : goal.returns-in-Refused
+pub returns-in_err-sections : goal.returns-in_err-sections
 unfolding counts
-returns-in-Refused c =
-    record {
-      value = refuses meta _ c.meta_sections-sections.ensures c.check_meta-check.ensures (λ r. 0 ∷ 0 ∷ 0 ∷ 0 ∷ 0 ∷ []) _ _ c.in-Refused.is;
-      refusal_after = code_is meta _ c.meta_sections-sections.ensures c.check_meta-check.ensures c.code.ensures;
-    }
+returns-in_err-sections c =
+    handed_on c.from_residual.ensures.1 ∙ refuses meta _ _ _ c.in_err-sections.ensures

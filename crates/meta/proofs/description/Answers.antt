@@ -4,6 +4,6 @@ use Rattle.meta.proofs.description.Goals as goal
 pub returns : goal.returns
 returns c =
     record {
-      result_value = rw (← c.description_at.ensures) c.bytes.ensures.result_value;
-      refusal_after = rw (← c.description_at.ensures) c.bytes.ensures.refusal_after;
+      bytes = rw (← c.description_at.ensures) c.bytes.ensures.bytes;
+      code = rw (← c.description_at.ensures) c.bytes.ensures.code;
     }

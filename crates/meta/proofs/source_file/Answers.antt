@@ -1,29 +1,31 @@
 -- By whether the file opens; then the array lies in it.
+use mathlib.Core.Path.{◌∙◌}
+use Rattle.refusal.proofs.Checks.{handed_on}
+use Rattle.std.specs.Prelude.{Err}
 use Rattle.open.specs.Format.{meta}
 use Rattle.open.specs.Names as Section
 use Rattle.open.proofs.Answer.{answers, refuses}
 use Rattle.array.proofs.Bounds.{header_there, array_there}
 use Rattle.meta.specs.Names.{source_at}
-use Rattle.meta.specs.declared.SourceFile.TheVariants.{Refused}
 use native.Mathlib.Omega.{arith}
 use Rattle.meta.proofs.source_file.Goals as goal
 
 pub of_specs-files-requires : goal.of_specs-files-requires
 of_specs-files-requires c =
-    header_there meta _ c.meta_sections-sections.ensures c.check_meta-check.ensures c.in-Passed.is Section.files (omega arith)
+    header_there meta _ c.in_ok-sections.ensures Section.files (omega arith)
 
 pub source_in-requires : goal.source_in-requires
 source_in-requires c =
-    array_there meta _ c.meta_sections-sections.ensures c.check_meta-check.ensures c.in-Passed.is Section.files (omega arith) (omega arith)
+    array_there meta _ c.in_ok-sections.ensures Section.files (omega arith) (omega arith)
     c.of_specs-files.ensures
 
-pub returns-in-Passed : goal.returns-in-Passed
+pub returns : goal.returns
 unfolding source_at
-returns-in-Passed c =
+returns c =
     rw (c.source_in.ensures, c.of_specs-files.ensures)
-    (answers meta _ c.meta_sections-sections.ensures c.check_meta-check.ensures Refused _ c.in-Passed.is)
+    (answers meta _ Err _ c.in_ok-sections.ensures)
 
-pub returns-in-Refused : goal.returns-in-Refused
+pub returns-in_err-sections : goal.returns-in_err-sections
 unfolding source_at
-returns-in-Refused c =
-    refuses meta _ c.meta_sections-sections.ensures c.check_meta-check.ensures Refused _ _ c.in-Refused.is
+returns-in_err-sections c =
+    handed_on c.from_residual.ensures.1 ∙ refuses meta _ Err _ c.in_err-sections.ensures

@@ -4,6 +4,6 @@ use Rattle.meta.proofs.source_path.Goals as goal
 pub returns : goal.returns
 returns c =
     record {
-      result_value = rw (← c.source_file.ensures, ← c.source_text.ensures) c.bytes.ensures.result_value;
-      refusal_after = rw (← c.source_file.ensures, ← c.source_text.ensures) c.bytes.ensures.refusal_after;
+      bytes = rw (← c.source_file.ensures, ← c.source_text.ensures) c.bytes.ensures.bytes;
+      code = rw (← c.source_file.ensures, ← c.source_text.ensures) c.bytes.ensures.code;
     }

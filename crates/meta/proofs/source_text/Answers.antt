@@ -1,13 +1,13 @@
 -- By the answer's case.
+use mathlib.Core.Path.{◌∙◌}
+use Rattle.refusal.proofs.Checks.{handed_on}
 use Rattle.meta.specs.Names.{source_text}
 use Rattle.meta.proofs.source_text.Goals as goal
 
-pub returns-in-Found : goal.returns-in-Found
+pub returns : goal.returns
 unfolding source_text
-returns-in-Found c =
-    rw c.in-Found.is
+returns c = rw c.in_ok-answer.was
 
-pub returns-in-Refused : goal.returns-in-Refused
+pub returns-in_err-answer : goal.returns-in_err-answer
 unfolding source_text
-returns-in-Refused c =
-    rw c.in-Refused.is
+returns-in_err-answer c = handed_on c.from_residual.ensures.1 ∙ (rw c.in_err-answer.was)

@@ -4,6 +4,6 @@ use Rattle.meta.proofs.title.Goals as goal
 pub returns : goal.returns
 returns c =
     record {
-      result_value = rw (← c.title_at.ensures) c.bytes.ensures.result_value;
-      refusal_after = rw (← c.title_at.ensures) c.bytes.ensures.refusal_after;
+      bytes = rw (← c.title_at.ensures) c.bytes.ensures.bytes;
+      code = rw (← c.title_at.ensures) c.bytes.ensures.code;
     }

@@ -1,14 +1,16 @@
 -- By whether the name is there.
+use mathlib.Core.Path.{◌∙◌}
+use Rattle.refusal.proofs.Checks.{handed_on}
+use Rattle.refusal.specs.Check.{on_answer}
 use Rattle.metric.specs.Levels.{metric_found}
-use Rattle.text.specs.String.{on_text}
 use Rattle.metric.proofs.metric_found.Goals as goal
 
-pub returns-in-At : goal.returns-in-At
-unfolding metric_found on_text
-returns-in-At c =
-    rw (← c.string_of.ensures, c.in-At.is)
+pub returns : goal.returns
+unfolding metric_found on_answer
+returns c =
+    rw (← c.string_of.ensures, c.in_ok-name.was)
 
-pub returns-in-Refused : goal.returns-in-Refused
-unfolding metric_found on_text
-returns-in-Refused c =
-    rw (← c.string_of.ensures, c.in-Refused.is)
+pub returns-in_err-name : goal.returns-in_err-name
+unfolding metric_found on_answer
+returns-in_err-name c =
+    handed_on c.from_residual.ensures.1 ∙ (rw (← c.string_of.ensures, c.in_err-name.was))

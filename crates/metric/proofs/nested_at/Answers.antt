@@ -1,14 +1,16 @@
 -- By whether the element is there.
+use mathlib.Core.Path.{◌∙◌}
+use Rattle.refusal.proofs.Checks.{handed_on}
+use Rattle.refusal.specs.Check.{on_answer}
 use Rattle.metric.specs.Levels.{nested_at}
-use Rattle.array.specs.Element.{on_element}
 use Rattle.metric.proofs.nested_at.Goals as goal
 
-pub returns-in-At : goal.returns-in-At
-unfolding nested_at on_element
-returns-in-At c =
-    rw (c.nested_of.ensures, ← c.nth.ensures, c.in-At.is)
+pub returns : goal.returns
+unfolding nested_at on_answer
+returns c =
+    rw (c.nested_of.ensures, ← c.nth.ensures, c.in_ok-place.was)
 
-pub returns-in-Refused : goal.returns-in-Refused
-unfolding nested_at on_element
-returns-in-Refused c =
-    rw (← c.nth.ensures, c.in-Refused.is)
+pub returns-in_err-place : goal.returns-in_err-place
+unfolding nested_at on_answer
+returns-in_err-place c =
+    handed_on c.from_residual.ensures.1 ∙ (rw (← c.nth.ensures, c.in_err-place.was))

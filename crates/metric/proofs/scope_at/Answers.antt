@@ -1,21 +1,26 @@
--- By whether the file opens.
-use Rattle.metric.specs.Levels.{scope_at}
+-- By whether the file opens, and whether its own array is kept.
+use mathlib.Core.Path.{◌∙◌}
+use Rattle.refusal.specs.Check.{on_answer}
+use Rattle.refusal.proofs.Checks.{handed_on}
+use Rattle.metric.specs.Levels.{scope_at, scope_of}
 use Rattle.open.specs.Format.{meta}
-use Rattle.open.proofs.Answer.{answers, refuses, told_passed}
-use Rattle.metric.specs.declared.Scope.TheVariants as scope
+use Rattle.open.proofs.Answer.{answered, refuses, sections}
 use Rattle.metric.proofs.scope_at.Goals as goal
 
 pub scope_nested-requires : goal.scope_nested-requires
-scope_nested-requires c =
-    told_passed meta _ c.meta_sections-sections.ensures c.check_meta-check.ensures c.in-Passed.is
+scope_nested-requires c = sections c.in_ok-sections.ensures
 
-pub returns-in-Passed : goal.returns-in-Passed
-unfolding scope_at
-returns-in-Passed c =
-    rw (c.scope_of.ensures, c.scope_nested.ensures.value)
-    (answers meta _ c.meta_sections-sections.ensures c.check_meta-check.ensures scope.Refused _ c.in-Passed.is)
+pub returns : goal.returns
+unfolding scope_at scope_of on_answer
+returns c =
+    answered meta _ _ _ c.in_ok-sections.ensures (rw (← c.in_ok-scope.ensures.value, c.scope_found.ensures))
 
-pub returns-in-Refused : goal.returns-in-Refused
+pub returns-in_err-sections : goal.returns-in_err-sections
 unfolding scope_at
-returns-in-Refused c =
-    refuses meta _ c.meta_sections-sections.ensures c.check_meta-check.ensures scope.Refused _ _ c.in-Refused.is
+returns-in_err-sections c =
+    handed_on c.from_residual.ensures.1 ∙ refuses meta _ _ _ c.in_err-sections.ensures
+
+pub returns-in_err-scope : goal.returns-in_err-scope
+unfolding scope_at scope_of on_answer
+returns-in_err-scope c =
+    handed_on c.from_residual-in_err-scope.ensures.1 ∙ answered meta _ _ _ c.in_ok-sections.ensures (rw (← c.in_err-scope.ensures.value))

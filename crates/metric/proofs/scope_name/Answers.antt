@@ -4,6 +4,6 @@ use Rattle.metric.proofs.scope_name.Goals as goal
 pub returns : goal.returns
 returns c =
     record {
-      result_value = rw (← c.scope_at.ensures, ← c.scope_text.ensures) c.bytes.ensures.result_value;
-      refusal_after = rw (← c.scope_at.ensures, ← c.scope_text.ensures) c.bytes.ensures.refusal_after;
+      bytes = rw (← c.scope_at.ensures, ← c.scope_text.ensures) c.bytes.ensures.bytes;
+      code = rw (← c.scope_at.ensures, ← c.scope_text.ensures) c.bytes.ensures.code;
     }

@@ -1,15 +1,15 @@
 -- 5 to 7 after the front.
 use Rattle.open.specs.Opening.{opening_with}
-use Rattle.refusal.proofs.Checks.{after_passed, after_refused}
+use Rattle.refusal.proofs.Checks.{after_passed, after_refused, handed_on}
 use mathlib.Core.Path.{sym, ◌∙◌}
 use Rattle.open.proofs.check_profile.Goals as goal
 
-pub returns-in-Passed : goal.returns-in-Passed
+pub returns : goal.returns
 unfolding opening_with
-returns-in-Passed c =
-    after_passed (sym c.front-front.ensures ∙ c.in-Passed.is) c.profile_rules.ensures
+returns c =
+    after_passed (sym c.front.ensures ∙ c.in_ok-front.was) c.profile_rules.ensures
 
-pub returns-in-Refused : goal.returns-in-Refused
+pub returns-in_err-front : goal.returns-in_err-front
 unfolding opening_with
-returns-in-Refused c =
-    after_refused _ (sym c.front-front.ensures ∙ c.in-Refused.is)
+returns-in_err-front c =
+    handed_on c.from_residual.ensures.1 ∙ after_refused _ (sym c.front.ensures ∙ c.in_err-front.was)

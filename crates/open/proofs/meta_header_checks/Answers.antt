@@ -35,11 +35,11 @@ pub returns : goal.returns
 unfolding in_order header_check
 returns c =
     rw (
-      c.first-4.ensures,
-      c.first-3.ensures,
-      c.first-2.ensures,
-      c.first-last.ensures,
-      c.first.ensures,
+      c.and-4.ensures,
+      c.and-3.ensures,
+      c.and-2.ensures,
+      c.and-last.ensures,
+      c.and.ensures,
       c.specs_header-functions.ensures,
       c.specs_header-files.ensures,
       c.specs_header-modules.ensures,

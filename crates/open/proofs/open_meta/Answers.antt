@@ -1,16 +1,14 @@
--- The check's case decides between the pairs and zeros.
+-- By the check over the pairs that were read.
 use Rattle.open.specs.Format.{meta}
-use Rattle.open.specs.Opening.{pairs, pairs_from, blank}
 use Rattle.open.proofs.Answer.{passed, refused}
+use Rattle.refusal.proofs.Checks.{handed_on}
+use mathlib.Core.Path.{◌∙◌}
 use Rattle.open.proofs.open_meta.Goals as goal
 
-pub returns-in-Passed : goal.returns-in-Passed
-returns-in-Passed c =
-    let all = passed meta _ c.meta_sections-sections.ensures c.check_meta-check.ensures c.code.ensures c.in-Passed.is in
-    record { value = all.0; refusal_after = all.1 }
+pub returns : goal.returns
+returns c =
+    passed meta _ c.meta_sections-sections.ensures c.check_meta.ensures c.in_ok-check_meta.was
 
-pub returns-in-Refused : goal.returns-in-Refused
-unfolding pairs pairs_from blank
-returns-in-Refused c =
-    let all = refused meta _ c.meta_sections-sections.ensures c.check_meta-check.ensures c.code.ensures _ c.in-Refused.is in
-    record { value = all.0; refusal_after = all.1 }
+pub returns-in_err-check_meta : goal.returns-in_err-check_meta
+returns-in_err-check_meta c =
+    handed_on c.from_residual.ensures.1 ∙ refused meta _ c.meta_sections-sections.ensures c.check_meta.ensures c.in_err-check_meta.was

@@ -1,17 +1,14 @@
--- The check's case decides between the pairs and zeros.
+-- By the check over the pairs that were read.
 use Rattle.open.specs.Format.{trace}
-use Rattle.open.specs.Opening.{pairs, pairs_from, blank}
 use Rattle.open.proofs.Answer.{passed, refused}
+use Rattle.refusal.proofs.Checks.{handed_on}
+use mathlib.Core.Path.{◌∙◌}
 use Rattle.open.proofs.open_trace.Goals as goal
 
-pub returns-in-Passed : goal.returns-in-Passed
-unfolding pairs pairs_from
-returns-in-Passed c =
-    let all = passed trace _ c.single_section-sections.ensures.value_2 c.check_trace-check.ensures c.code.ensures c.in-Passed.is in
-    record { value = all.0; refusal_after = all.1 }
+pub returns : goal.returns
+returns c =
+    passed trace _ c.single_section-sections.ensures.value_2 c.check_trace.ensures c.in_ok-check_trace.was
 
-pub returns-in-Refused : goal.returns-in-Refused
-unfolding pairs pairs_from blank
-returns-in-Refused c =
-    let all = refused trace _ c.single_section-sections.ensures.value_2 c.check_trace-check.ensures c.code.ensures _ c.in-Refused.is in
-    record { value = all.0; refusal_after = all.1 }
+pub returns-in_err-check_trace : goal.returns-in_err-check_trace
+returns-in_err-check_trace c =
+    handed_on c.from_residual.ensures.1 ∙ refused trace _ c.single_section-sections.ensures.value_2 c.check_trace.ensures c.in_err-check_trace.was

@@ -3,4 +3,4 @@ use Rattle.open.proofs.strides_then_array.Goals as goal
 
 pub returns : goal.returns
 returns c =
-    rw (c.first.ensures, c.rule-range.ensures, c.rule-stride.ensures)
+    rw (c.and.ensures, c.rule-range.ensures, c.rule-stride.ensures)

@@ -2,7 +2,8 @@
 use mathlib.Core.Path.{sym, ◌∙◌}
 use Rattle.profile_file.specs.Check.{sizes_fit}
 use Rattle.profile_lists.specs.Lists.{survey_of}
-use Rattle.profile_lists.proofs.Stages.{many_profiles, large_tuples, sizes_left}
+use Rattle.profile_lists.proofs.Stages.{many_profiles, large_tuples, sizes_measured, sizes_refused}
+use Rattle.refusal.proofs.Checks.{handed_on}
 use Rattle.profile_lists.proofs.check_sizes.Goals as goal
 
 pub returns-then-profiles-ge4294967296 : goal.returns-then-profiles-ge4294967296
@@ -20,13 +21,12 @@ pub returns : goal.returns
 unfolding sizes_fit
 returns c =
     let survey = survey_of c.args.profiles.now c.args.tuples.now c.args.identifiers.now c.args.entries.now in
-    rw (
-      c.first.ensures,
-      c.rule.ensures,
-      c.rule-2.ensures,
-      c.has_room.ensures,
-      c.measure-blocks.ensures.counted,
-      c.measure-blocks.ensures.bytes,
-      c.requires.identifications_value,
-    )
-    (sym (sizes_left survey c.args.room c.if-profiles-ge4294967296.false (sym c.all_below.ensures ∙ c.if-not-all_below.false)))
+    c.rule.ensures ∙ rw (c.has_room.ensures, c.requires.identifications_value)
+    (sizes_measured survey c.args.room c.if-profiles-ge4294967296.false (sym c.all_below.ensures ∙ c.if-not-all_below.false) c.in_ok-blocks.ensures)
+
+pub returns-in_err-blocks : goal.returns-in_err-blocks
+unfolding sizes_fit
+returns-in_err-blocks c =
+    let survey = survey_of c.args.profiles.now c.args.tuples.now c.args.identifiers.now c.args.entries.now in
+    handed_on c.from_residual.ensures.1
+    ∙ sizes_refused survey c.args.room c.if-profiles-ge4294967296.false (sym c.all_below.ensures ∙ c.if-not-all_below.false) c.in_err-blocks.ensures

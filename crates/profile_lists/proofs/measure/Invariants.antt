@@ -1,12 +1,8 @@
 -- The blocks of the profiles passed are measured, and the next run starts at `start`.
 -- No sum wraps, as a block has no more bytes than its entries.
-use Prim.Native.Nat.{◌-◌}
 use Rattle.profile_lists.specs.Lists.{entries_in}
 use Rattle.profile_lists.proofs.Loops.{Measured}
 use Rattle.profile_lists.proofs.measure.Given as goal
 
 abbrev pub invariant-loop-p : goal.invariant-loop-p
-invariant-loop-p l = Measured (entries_in l.entries) l.profiles l.p l.start l.bytes l.counted
-
-abbrev pub decreases-loop-p : goal.decreases-loop-p
-decreases-loop-p l = l.profiles - l.p
+invariant-loop-p l = Measured (entries_in l.entries) l.profiles l.p l.start l.bytes

@@ -1,5 +1,4 @@
 -- Identification after identification; the first of tuple t is behind those of the tuples before it.
-use Prim.Native.Nat.{◌-◌, ◌≤◌}
 use mathlib.Core.Path.{◌≡◌}
 use lib.ListN.{length}
 use Rattle.layout.specs.Many.{many}
@@ -9,8 +8,5 @@ use Rattle.profile_lists.specs.Lists.{tuples_in}
 use Rattle.profile_writer.proofs.put_identifications.Given as goal
 
 abbrev pub invariant-loop-j : goal.invariant-loop-j
-invariant-loop-j l = (l.j ≤ l.n) × (length l.file ≡ length l.initial.file)
+invariant-loop-j l = (length l.file ≡ length l.initial.file)
     × (l.file ≡ over l.initial.file l.at (many (identification_bytes (tuples_in l.tuples l.identifiers) l.t) l.j))
-
-abbrev pub decreases-loop-j : goal.decreases-loop-j
-decreases-loop-j l = l.n - l.j

@@ -1,5 +1,5 @@
 -- The indices of the groups that start below k stand behind one another; an entry that starts none has no bytes.
-use Prim.Native.Nat.{ℕ, ◌+◌, ◌-◌, ◌≤◌}
+use Prim.Native.Nat.{ℕ, ◌+◌}
 use mathlib.Core.List.{List}
 use mathlib.Core.Path.{◌≡◌}
 use lib.ListN.{length}
@@ -15,8 +15,5 @@ contexts entries start k = (entries_in entries).context (start + k)
 
 abbrev pub invariant-loop-k : goal.invariant-loop-k
 invariant-loop-k l =
-    (l.k ≤ l.held) × (l.count ≡ groups (contexts l.entries l.start) l.k) × (length l.file ≡ length l.initial.file)
+    (l.count ≡ groups (contexts l.entries l.start) l.k) × (length l.file ≡ length l.initial.file)
     × (l.file ≡ over l.initial.file l.at (many (index_element 4 (contexts l.entries l.start)) l.k))
-
-abbrev pub decreases-loop-k : goal.decreases-loop-k
-decreases-loop-k l = l.held - l.k

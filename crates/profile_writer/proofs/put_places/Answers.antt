@@ -17,7 +17,6 @@ use Rattle.profile_writer.proofs.put_places.Goals as goal
 
 pub loop-t-init : goal.loop-t-init
 loop-t-init c = (
-  omega arith,
   refl,
   omega (arith, sum_none (word_of c.args.tuples.now)),
   over_many_none (λ (k : ℕ). bytes 8 (place_of_tuple c.args.tuples.now c.args.at k)) c.args.file.now c.args.at,
@@ -39,13 +38,7 @@ pub loop-t-preserved : goal.loop-t-preserved
 loop-t-preserved c =
     let e : ℕ → List ℕ = λ k. bytes 8 (place_of_tuple c.args.tuples.now c.args.at k) in
     let eights : length (many e c.loop-t.t) ≡ c.loop-t.t * 8 = length_many e 8 c.loop-t.t (λ k m. length_bytes 8 _) in (
-      omega arith,
-      rw (c.store_u64.ensures, length_over) c.loop-t.invariant.1,
+      rw (c.store_u64.ensures, length_over) c.loop-t.invariant.0,
       omega (arith, sum_more (word_of c.args.tuples.now) c.loop-t.t),
-      rw (c.store_u64.ensures, over_many_more e c.args.file.now c.args.at c.loop-t.t, eights, ← c.loop-t.invariant.3, c.loop-t.invariant.2),
+      rw (c.store_u64.ensures, over_many_more e c.args.file.now c.args.at c.loop-t.t, eights, ← c.loop-t.invariant.2, c.loop-t.invariant.1),
     )
-
-pub returns : goal.returns
-returns c =
-    let ends : c.loop-t.t ≡ length c.args.tuples.now = omega arith in
-    record { end = rw (← ends) c.loop-t.invariant.2; bytes = rw (← ends) c.loop-t.invariant.3 }

@@ -11,9 +11,10 @@ use Rattle.profile_file.specs.Survey.{Survey, run_start, run_length, pairs_of}
 use Rattle.profile_file.specs.File.{block_bytes, tuples_from, tuples_size}
 use Rattle.profile_file.proofs.Runs.{run_next}
 use Rattle.profile_file.proofs.Lengths.{length_block}
-use Rattle.profile_lists.specs.Lists.{survey_of}
+use Rattle.profile_lists.specs.Lists.{word_of, entries_in, survey_of}
 use Rattle.profile_writer.proofs.Profiles.{Ready, ready, info_fields, places_fit, tuples-from, block-from, Growing, growing_none, growing_length, front_room, block_room, next_at, growing_more, place_behind}
 use Rattle.profile_writer.proofs.put_profiles.Goals as goal
+use Rattle.profile_writer.proofs.put_profiles.Goals.{After-put_block-run}
 
 module _ (profiles tuples identifiers entries out₀ : List ℕ) where
   abbrev survey : Survey
@@ -75,85 +76,50 @@ put_block-run-requires c =
           );
     }
 
-pub overflow_sub-held : goal.overflow_sub-held
-overflow_sub-held c =
+-- after the block of a turn: where its run and its block end, and that the place of its tuple lies in the file
+turn : (c : After-put_block-run) → (c.put_block-run.result.end ≡ c.loop-p.start + run_length (entries_in c.args.entries.now) c.loop-p.p)
+    × (c.loop-p.at + (run_length (entries_in c.args.entries.now) c.loop-p.p * 10
+    + 2 * (run_length (entries_in c.args.entries.now) c.loop-p.p % 2) + c.put_block-run.result.contexts * 12) ≤ length c.args.file.now)
+    × (length c.put_block-run.new.file ≡ length c.args.file.now)
+    × (c.args.table + word_of c.args.profiles.now c.loop-p.p * 8 + 8 ≤ length c.args.file.now)
+    × (64 + c.loop-p.p * 40 + 40 ≤ length c.args.file.now)
+turn c =
     let a = c.args in
-    let kept = ready a.profiles.now a.tuples.now a.identifiers.now a.entries.now (length a.file.now) c.requires.file_value in
-    omega (arith, held _ _ _ _ _ kept c.loop-p.invariant c.loop-p-test.true c.put_block-run.ensures.end)
-
-pub overflow_mul-indices : goal.overflow_mul-indices
-overflow_mul-indices c =
-    let a = c.args in
-    let kept = ready a.profiles.now a.tuples.now a.identifiers.now a.entries.now (length a.file.now) c.requires.file_value in
-    omega (
-      arith,
+    let s = survey_of a.profiles.now a.tuples.now a.identifiers.now a.entries.now in
+    let kept = ready a.profiles.now a.tuples.now a.identifiers.now a.entries.now (length a.file.now) c.requires.file_value in (
       held _ _ _ _ _ kept c.loop-p.invariant c.loop-p-test.true c.put_block-run.ensures.end,
       block_ends _ _ _ _ _ kept c.loop-p.invariant c.loop-p-test.true c.put_block-run.ensures.contexts,
-    )
-
-pub overflow_add-indices : goal.overflow_add-indices
-overflow_add-indices c =
-    let a = c.args in
-    let kept = ready a.profiles.now a.tuples.now a.identifiers.now a.entries.now (length a.file.now) c.requires.file_value in
-    omega (
-      arith,
-      held _ _ _ _ _ kept c.loop-p.invariant c.loop-p-test.true c.put_block-run.ensures.end,
-      block_ends _ _ _ _ _ kept c.loop-p.invariant c.loop-p-test.true c.put_block-run.ensures.contexts,
-    )
-
-pub overflow_mul-indices-in-loop-p : goal.overflow_mul-indices-in-loop-p
-overflow_mul-indices-in-loop-p c =
-    let a = c.args in
-    let kept = ready a.profiles.now a.tuples.now a.identifiers.now a.entries.now (length a.file.now) c.requires.file_value in
-    omega (
-      arith,
-      held _ _ _ _ _ kept c.loop-p.invariant c.loop-p-test.true c.put_block-run.ensures.end,
-      block_ends _ _ _ _ _ kept c.loop-p.invariant c.loop-p-test.true c.put_block-run.ensures.contexts,
-    )
-
-pub overflow_add-indices-in-loop-p : goal.overflow_add-indices-in-loop-p
-overflow_add-indices-in-loop-p c =
-    let a = c.args in
-    let kept = ready a.profiles.now a.tuples.now a.identifiers.now a.entries.now (length a.file.now) c.requires.file_value in
-    omega (
-      arith,
-      held _ _ _ _ _ kept c.loop-p.invariant c.loop-p-test.true c.put_block-run.ensures.end,
-      block_ends _ _ _ _ _ kept c.loop-p.invariant c.loop-p-test.true c.put_block-run.ensures.contexts,
-    )
-
-pub overflow_mul-profiles : goal.overflow_mul-profiles
-overflow_mul-profiles c =
-    let a = c.args in
-    let kept = ready a.profiles.now a.tuples.now a.identifiers.now a.entries.now (length a.file.now) c.requires.file_value in
-    omega (arith, place_inside _ _ _ _ _ kept c.loop-p.invariant c.loop-p-test.true c.requires.table_value)
-
-pub overflow_add-table : goal.overflow_add-table
-overflow_add-table c =
-    let a = c.args in
-    let kept = ready a.profiles.now a.tuples.now a.identifiers.now a.entries.now (length a.file.now) c.requires.file_value in
-    omega (arith, place_inside _ _ _ _ _ kept c.loop-p.invariant c.loop-p-test.true c.requires.table_value)
-
-pub load_u64-tuple-requires : goal.load_u64-tuple-requires
-load_u64-tuple-requires c =
-    let a = c.args in
-    let kept = ready a.profiles.now a.tuples.now a.identifiers.now a.entries.now (length a.file.now) c.requires.file_value in
-    omega (
-      arith,
       as_long _ _ _ _ _ kept c.loop-p.invariant c.loop-p-test.true c.put_block-run.ensures.bytes,
       place_inside _ _ _ _ _ kept c.loop-p.invariant c.loop-p-test.true c.requires.table_value,
+      omega (arith, front_room s a.file.now kept, c.loop-p-test.true),
     )
 
+pub overflow_sub-held : goal.overflow_sub-held
+overflow_sub-held c = omega (arith, turn (goal.at.overflow_sub-held c).After-put_block-run)
+
+pub overflow_mul-indices : goal.overflow_mul-indices
+overflow_mul-indices c = omega (arith, turn (goal.at.overflow_mul-indices c).After-put_block-run)
+
+pub overflow_add-indices : goal.overflow_add-indices
+overflow_add-indices c = omega (arith, turn (goal.at.overflow_add-indices c).After-put_block-run)
+
+pub overflow_add-indices-in-loop-p : goal.overflow_add-indices-in-loop-p
+overflow_add-indices-in-loop-p c = omega (arith, turn (goal.at.overflow_add-indices-in-loop-p c).After-put_block-run)
+
+pub overflow_mul-named : goal.overflow_mul-named
+overflow_mul-named c = omega (arith, turn (goal.at.overflow_mul-named c).After-put_block-run)
+
+pub overflow_add-table : goal.overflow_add-table
+overflow_add-table c = omega (arith, turn (goal.at.overflow_add-table c).After-put_block-run)
+
+pub load_u64-tuple-requires : goal.load_u64-tuple-requires
+load_u64-tuple-requires c = omega (arith, turn (goal.at.load_u64-tuple-requires c).After-put_block-run)
+
 pub overflow_mul-p : goal.overflow_mul-p
-overflow_mul-p c =
-    let a = c.args in
-    let kept = ready a.profiles.now a.tuples.now a.identifiers.now a.entries.now (length a.file.now) c.requires.file_value in
-    omega (arith, c.loop-p-test.true, kept.counted.profiles_fit)
+overflow_mul-p c = omega (arith, turn (goal.at.overflow_mul-p c).After-put_block-run)
 
 pub overflow_add-p : goal.overflow_add-p
-overflow_add-p c =
-    let a = c.args in
-    let kept = ready a.profiles.now a.tuples.now a.identifiers.now a.entries.now (length a.file.now) c.requires.file_value in
-    omega (arith, c.loop-p-test.true, kept.counted.profiles_fit)
+overflow_add-p c = omega (arith, turn (goal.at.overflow_add-p c).After-put_block-run)
 
 pub overflow_cast-run : goal.overflow_cast-run
 overflow_cast-run c =
@@ -162,42 +128,13 @@ overflow_cast-run c =
     omega (arith, c.put_block-run.ensures.contexts, kept.counted.contexts-fit c.loop-p.p c.loop-p-test.true)
 
 pub put_info-requires : goal.put_info-requires
-put_info-requires c =
-    let a = c.args in
-    let s = survey_of a.profiles.now a.tuples.now a.identifiers.now a.entries.now in
-    let kept = ready a.profiles.now a.tuples.now a.identifiers.now a.entries.now (length a.file.now) c.requires.file_value in
-    omega (
-      arith,
-      as_long _ _ _ _ _ kept c.loop-p.invariant c.loop-p-test.true c.put_block-run.ensures.bytes,
-      front_room s a.file.now kept,
-      c.loop-p-test.true,
-    )
+put_info-requires c = omega (arith, turn (goal.at.put_info-requires c).After-put_block-run)
 
 pub overflow_mul-at : goal.overflow_mul-at
-overflow_mul-at c =
-    let a = c.args in
-    let kept = ready a.profiles.now a.tuples.now a.identifiers.now a.entries.now (length a.file.now) c.requires.file_value in
-    omega (
-      arith,
-      held _ _ _ _ _ kept c.loop-p.invariant c.loop-p-test.true c.put_block-run.ensures.end,
-      block_ends _ _ _ _ _ kept c.loop-p.invariant c.loop-p-test.true c.put_block-run.ensures.contexts,
-    )
+overflow_mul-at c = omega (arith, turn (goal.at.overflow_mul-at c).After-put_block-run)
 
 pub overflow_add-at : goal.overflow_add-at
-overflow_add-at c =
-    let a = c.args in
-    let kept = ready a.profiles.now a.tuples.now a.identifiers.now a.entries.now (length a.file.now) c.requires.file_value in
-    omega (
-      arith,
-      held _ _ _ _ _ kept c.loop-p.invariant c.loop-p-test.true c.put_block-run.ensures.end,
-      block_ends _ _ _ _ _ kept c.loop-p.invariant c.loop-p-test.true c.put_block-run.ensures.contexts,
-    )
-
-pub overflow_add-p-in-loop-p : goal.overflow_add-p-in-loop-p
-overflow_add-p-in-loop-p c = omega (arith, c.loop-p-test.true)
-
-pub loop-p-smaller : goal.loop-p-smaller
-loop-p-smaller c = omega (arith, c.loop-p-test.true)
+overflow_add-at c = omega (arith, turn (goal.at.overflow_add-at c).After-put_block-run)
 
 pub loop-p-preserved : goal.loop-p-preserved
 loop-p-preserved c =
@@ -228,19 +165,12 @@ loop-p-preserved c =
       info_fields s turns.p,
     ))
 
-pub shape_of-file : goal.shape_of-file
-shape_of-file c =
-    let a = c.args in
-    let s = survey_of a.profiles.now a.tuples.now a.identifiers.now a.entries.now in
-    let kept = ready a.profiles.now a.tuples.now a.identifiers.now a.entries.now (length a.file.now) c.requires.file_value in
-    growing_length s a.file.now kept c.loop-p.invariant
-
 pub returns : goal.returns
 returns c =
     let a = c.args in
     let turns = c.loop-p in
     let s = survey_of a.profiles.now a.tuples.now a.identifiers.now a.entries.now in
-    let n : turns.p ≡ length a.profiles.now = omega (arith, turns.invariant.within, c.loop-p-test.false) in
+    let n : turns.p ≡ length a.profiles.now = omega (arith, turns.invariant.within) in
     let from : a.blocks ≡ tuples_from s + tuples_size s =
     blocks_at a.profiles.now a.tuples.now a.identifiers.now a.entries.now a.file.now c.requires.table_value c.requires.blocks_value in
     record {

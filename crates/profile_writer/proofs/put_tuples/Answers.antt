@@ -1,10 +1,7 @@
 -- Tuple after tuple, each as its size and its identifications; `first` counts those of the tuples before.
-use Prim.Native.Nat.{ℕ}
-use mathlib.Core.Path.{◌≡◌, refl, ap, ◌∙◌}
+use mathlib.Core.Path.{refl}
 use native.Mathlib.Omega.{arith}
 use lib.ListN.{length}
-use Rattle.layout.specs.Many.{many}
-use Rattle.buffer.specs.Over.{over}
 use Rattle.buffer.proofs.Laws.{length_over}
 use Rattle.put.proofs.Fields.{over_many_none, over_many_more}
 use Rattle.seq.proofs.Sum.{sum_none, sum_more, sum_ends}
@@ -17,7 +14,6 @@ use Rattle.profile_writer.proofs.put_tuples.Goals as goal
 pub loop-t-init : goal.loop-t-init
 loop-t-init c =
     let ts = tuples_in c.args.tuples.now c.args.identifiers.now in (
-      omega arith,
       refl,
       omega (arith, sum_none (word_of c.args.tuples.now)),
       omega (arith, length_tuples ts 0, sum_none (word_of c.args.tuples.now)),
@@ -34,15 +30,14 @@ overflow_add-place c =
     let ts = tuples_in c.args.tuples.now c.args.identifiers.now in
     omega (arith, tuple_inside ts c.loop-t.t ts.count c.loop-t-test.true)
 
-pub put_identifications-requires : goal.put_identifications-requires
-put_identifications-requires c =
+pub put_identifications-requires-clause-t_in_bounds : goal.put_identifications-requires-clause-t_in_bounds
+put_identifications-requires-clause-t_in_bounds c =
     let ts = tuples_in c.args.tuples.now c.args.identifiers.now in
-    record {
-      first_value = c.loop-t.invariant.2;
-      t_in_bounds = omega (arith, tuple_inside ts c.loop-t.t (length c.args.tuples.now) c.loop-t-test.true);
-      t_in_bounds_2 = omega (arith, sum_ends (word_of c.args.tuples.now) c.loop-t.t (length c.args.tuples.now) c.loop-t-test.true);
-      t_in_bounds_3 = c.loop-t-test.true;
-    }
+    omega (arith, tuple_inside ts c.loop-t.t ts.count c.loop-t-test.true)
+
+pub put_identifications-requires-clause-t_in_bounds_2 : goal.put_identifications-requires-clause-t_in_bounds_2
+put_identifications-requires-clause-t_in_bounds_2 c =
+    omega (arith, sum_ends (word_of c.args.tuples.now) c.loop-t.t (length c.args.tuples.now) c.loop-t-test.true)
 
 pub overflow_add-place-in-loop-t : goal.overflow_add-place-in-loop-t
 overflow_add-place-in-loop-t c =
@@ -67,8 +62,7 @@ pub loop-t-preserved : goal.loop-t-preserved
 loop-t-preserved c =
     let ts = tuples_in c.args.tuples.now c.args.identifiers.now in
     let small = size_fits ts c.requires.identifiers_value c.loop-t.t c.loop-t-test.true in (
-      omega arith,
-      rw (c.put_identifications.ensures, length_over, c.store_u64.ensures, length_over) c.loop-t.invariant.1,
+      rw (c.put_identifications.ensures, length_over, c.store_u64.ensures, length_over) c.loop-t.invariant.0,
       omega (arith, sum_more (word_of c.args.tuples.now) c.loop-t.t),
       omega (arith, tuples_more ts c.loop-t.t),
       rw (
@@ -76,13 +70,7 @@ loop-t-preserved c =
         c.store_u64.ensures,
         over_many_more (tuple_bytes ts) c.args.file.now c.args.at c.loop-t.t,
         over_tuple ts c.loop-t.t small,
-        ← c.loop-t.invariant.4,
         ← c.loop-t.invariant.3,
+        ← c.loop-t.invariant.2,
       ),
     )
-
-pub returns : goal.returns
-returns c =
-    let ends : c.loop-t.t ≡ length c.args.tuples.now = omega arith in
-    c.loop-t.invariant.4
-    ∙ ap (λ (k : ℕ). over c.args.file.now c.args.at (many (tuple_bytes (tuples_in c.args.tuples.now c.args.identifiers.now)) k)) ends

@@ -1,5 +1,5 @@
 -- A turn is taken for each entry of the run, and the loop ends where the run does.
-use Prim.Native.Nat.{ℕ, ◌+◌, ◌-◌, ◌≤◌}
+use Prim.Native.Nat.{ℕ, ◌+◌, ◌≤◌}
 use mathlib.Core.List.{List}
 use mathlib.Core.Path.{◌≡◌}
 use lib.ListN.{length}
@@ -18,6 +18,3 @@ abbrev pub invariant-loop-k : goal.invariant-loop-k
 invariant-loop-k l =
     (l.start + l.k ≤ run_start (entries_in l.entries) (l.p + 1)) × (length l.file ≡ length l.initial.file)
     × (l.file ≡ over l.initial.file l.at (many (value_of l.entries l.start) l.k))
-
-abbrev pub decreases-loop-k : goal.decreases-loop-k
-decreases-loop-k l = (entries_in l.entries).count - (l.start + l.k)

@@ -1,15 +1,9 @@
-use mathlib.Core.Path.{sym, ap, ◌∙◌}
-use native.Mathlib.Omega.{arith}
-use lib.ListN.{length-set}
-use Rattle.buffer.specs.Over.{over}
-use Rattle.buffer.proofs.Laws.{over_two}
-use Rattle.put.proofs.Bytes.{two_bytes}
+-- The part holds the bytes.
+use Rattle.std.proofs.Common.{◌∙◌, arith}
+use Rattle.buffer.proofs.Laws.{over_part}
+use Rattle.put.proofs.Bytes.{std_bytes}
 use Rattle.put.proofs.store_u16.Goals as goal
-
-pub bounds-out-at-2 : goal.bounds-out-at-2
-bounds-out-at-2 c =
-    rw length-set (omega arith)
 
 pub returns : goal.returns
 returns c =
-    sym (over_two c.args.out.now c.args.at _ _) ∙ ap (over c.args.out.now c.args.at) (sym (two_bytes c.args.x (omega arith)))
+    rw (← std_bytes 2 c.args.x) (over_part c.args.out.now c.args.at _ _ (c.copy_from_slice.ensures.after ∙ c.to_le_bytes.ensures) (omega arith) c.requires)

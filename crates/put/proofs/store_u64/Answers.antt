@@ -1,16 +1,9 @@
-use Prim.Native.Nat.{◌/◌, ◌%◌}
-use Rattle.layout.specs.Bytes.{bytes}
-use Rattle.layout.proofs.Laws.{length_bytes}
-use Rattle.buffer.proofs.Laws.{over_append}
-use Rattle.put.proofs.Bytes.{eight_bytes}
+-- The part holds the bytes.
+use Rattle.std.proofs.Common.{◌∙◌, arith}
+use Rattle.buffer.proofs.Laws.{over_part}
+use Rattle.put.proofs.Bytes.{std_bytes}
 use Rattle.put.proofs.store_u64.Goals as goal
 
 pub returns : goal.returns
 returns c =
-    rw (
-      c.store_u32-2.ensures,
-      c.store_u32.ensures,
-      eight_bytes c.args.x,
-      over_append (bytes 4 (c.args.x % 4294967296)) (bytes 4 (c.args.x / 4294967296)) c.args.out.now c.args.at,
-      length_bytes,
-    )
+    rw (← std_bytes 8 c.args.x) (over_part c.args.out.now c.args.at _ _ (c.copy_from_slice.ensures.after ∙ c.to_le_bytes.ensures) (omega arith) c.requires)

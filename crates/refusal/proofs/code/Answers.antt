@@ -1,13 +1,13 @@
--- By the two cases of a check.
+-- By the two cases.
 use Rattle.refusal.specs.Check.{code_of}
 use Rattle.refusal.proofs.code.Goals as goal
 
-pub returns-in-Passed : goal.returns-in-Passed
+pub returns-in-Ok : goal.returns-in-Ok
 unfolding code_of
-returns-in-Passed c =
-    rw c.in-Passed.is
+returns-in-Ok g c =
+    rw c.in-Ok.is
 
-pub returns-in-Refused : goal.returns-in-Refused
+pub returns-in-Err : goal.returns-in-Err
 unfolding code_of
-returns-in-Refused c =
-    rw (c.in-Refused.is, c.number.ensures)
+returns-in-Err g c =
+    rw (c.in-Err.is, c.from.ensures)

@@ -1,12 +1,11 @@
--- The digits passed and those still to come write the number.
-use Rattle.script.proofs.Digits.{digit_more, digits_end}
-use mathlib.Core.Path.{sym, ◌∙◌}
+-- Each digit makes the number of those before it the next.
+use Rattle.std.proofs.Common.{◌≡◌, subst, rules, arith}
+use Rattle.std.proofs.lemmas.Fn.{fold_over, slice_gives, fronts}
+use Rattle.script.specs.Line.{decimal}
+use Rattle.script.proofs.Digits.{decimal_none, decimal_push}
 use Rattle.script.proofs.decimal.Goals as goal
 
-pub loop-i-preserved : goal.loop-i-preserved
-loop-i-preserved c =
-    rw (c.more-n.ensures, ← digit_more c.args.text.now c.loop-i.n c.loop-i.i c.loop-i-test.true) c.loop-i.invariant
-
 pub returns : goal.returns
-returns c =
-    sym (digits_end c.args.text.now c.loop-i.n c.loop-i.i c.loop-i-test.false) ∙ c.loop-i.invariant
+returns c = subst (λ text. c.fold.result ≡ decimal text) c.iter.ensures.rest
+    (fold_over fronts (λ y. y.now) _ (λ ys n. n ≡ decimal ys) _ (λ ys a x b f' j k. let more = decimal_push 0 ys x.now in search (rules, arith))
+    _ _ _ _ (slice_gives c.iter.result) decimal_none c.fold.ensures.ran)

@@ -1,20 +1,18 @@
--- By the answer's case.
-use Rattle.text.specs.String.{text_bytes, text_words}
+-- By whether there is a string.
+use Rattle.refusal.specs.Check.{code_of}
+use Rattle.refusal.proofs.Checks.{handed_on}
 use Rattle.refusal.specs.Words.{code_in}
+use Rattle.text.specs.String.{text_bytes}
 use Rattle.text.proofs.bytes.Goals as goal
 
-pub returns-in-At : goal.returns-in-At
-unfolding text_bytes text_words code_in
-returns-in-At c =
-    record {
-      result_value = rw (c.in-At.is, c.part.ensures);
-      refusal_after = rw c.in-At.is;
-    }
+pub returns : goal.returns
+unfolding text_bytes code_of code_in
+returns c = record { bytes = rw c.in_ok-at.was c.part.ensures; code = rw c.in_ok-at.was }
 
-pub returns-in-Refused : goal.returns-in-Refused
-unfolding text_bytes text_words code_in
-returns-in-Refused c =
+pub returns-in_err-at : goal.returns-in_err-at
+unfolding code_of code_in
+returns-in_err-at c =
     record {
-      result_value = rw c.in-Refused.is;
-      refusal_after = rw (c.in-Refused.is, c.number.ensures);
+      bytes = rw (handed_on c.from_residual.ensures.1) tt;
+      code = rw (handed_on c.from_residual.ensures.1, c.in_err-at.was);
     }

@@ -1,6 +1,7 @@
 -- The check goes over just the section's bytes from the place on, and its answer decides.
+use Rattle.std.specs.Prelude.{Err, Result, ℕ}
+use Rattle.utf8.specs.declared.Fault.{Fault}
 use Rattle.std.proofs.Common.{◌+◌, ◌≤◌, ◌≡◌, length, sym, ap, ◌∙◌, arith}
-use Rattle.utf8.specs.declared.Utf8.{Utf8}
 use Rattle.utf8.specs.Terminated.{terminated}
 use Rattle.text.specs.String.{text_of, string_at}
 use Rattle.text.proofs.Laws.{none_left, all_taken, reaches}
@@ -12,7 +13,7 @@ there : (c : Else-n-eq0) → c.args.place + c.count_from-n.result ≤ length c.a
 there c = reaches _ _ _ _ c.count_from-n.ensures (omega arith)
 
 -- what is found of them decides
-decides : (c : After-check) {u : Utf8} → c.check.result ≡ u → text_of c.args.place u ≡ string_at c.args.file.now c.args.section c.args.place
+decides : (c : After-check) {u : Result ℕ Fault} → c.check.result ≡ u → text_of c.args.place u ≡ string_at c.args.file.now c.args.section c.args.place
 unfolding string_at
 decides c e =
     let a = c.args in
@@ -28,14 +29,14 @@ overflow_add-to c = omega (arith, there (goal.at.overflow_add-to c).Else-n-eq0)
 pub slice_bounds-check-end : goal.slice_bounds-check-end
 slice_bounds-check-end c = omega (arith, there (goal.at.slice_bounds-check-end c).Else-n-eq0)
 
-pub returns-in-Valid : goal.returns-in-Valid
+pub returns-in-Ok : goal.returns-in-Ok
 unfolding text_of
-returns-in-Valid c = decides (goal.at.returns-in-Valid c).After-check c.in-Valid.is
+returns-in-Ok c = decides (goal.at.returns-in-Ok c).After-check c.in-Ok.is
 
-pub returns-in-Invalid : goal.returns-in-Invalid
+pub returns-in-Err-Invalid : goal.returns-in-Err-Invalid
 unfolding text_of
-returns-in-Invalid c = decides (goal.at.returns-in-Invalid c).After-check c.in-Invalid.is
+returns-in-Err-Invalid c = decides (goal.at.returns-in-Err-Invalid c).After-check (c.in-Err-Invalid.is ∙ ap Err c.in-Err-Invalid.field-0-is)
 
-pub returns-in-Unterminated : goal.returns-in-Unterminated
+pub returns-in-Err-Unterminated : goal.returns-in-Err-Unterminated
 unfolding text_of
-returns-in-Unterminated c = decides (goal.at.returns-in-Unterminated c).After-check c.in-Unterminated.is
+returns-in-Err-Unterminated c = decides (goal.at.returns-in-Err-Unterminated c).After-check (c.in-Err-Unterminated.is ∙ ap Err c.in-Err-Unterminated.field-0-is)

@@ -1,19 +1,18 @@
 -- By the line.
-use Rattle.trace.proofs.Lines.{line_sound}
-use Rattle.trace.specs.Trace.{last_at, on_line}
 use mathlib.Core.Path.{sym, ◌∙◌}
+use Rattle.refusal.specs.Check.{on_answer}
+use Rattle.refusal.proofs.Checks.{handed_on}
+use Rattle.trace.proofs.Lines.{line_sound}
+use Rattle.trace.specs.Trace.{last_at}
 use Rattle.trace.proofs.last_at.Goals as goal
 
 pub last_in-requires : goal.last_in-requires
-last_in-requires c =
-    line_sound c.args.file.now c.args.i _ _ _ (sym c.line_at-line.ensures ∙ c.in-Of.is)
+last_in-requires c = line_sound c.args.file.now c.args.i _ _ _ (sym c.in_ok-line.ensures)
 
-pub returns-in-Of : goal.returns-in-Of
-unfolding last_at on_line
-returns-in-Of c =
-    rw (c.last_in.ensures, ← c.line_at-line.ensures, c.in-Of.is)
+pub returns : goal.returns
+unfolding last_at on_answer
+returns c = rw (← c.in_ok-line.ensures) c.last_in.ensures
 
-pub returns-in-Refused : goal.returns-in-Refused
-unfolding last_at on_line
-returns-in-Refused c =
-    rw (← c.line_at-line.ensures, c.in-Refused.is)
+pub returns-in_err-line : goal.returns-in_err-line
+unfolding last_at on_answer
+returns-in_err-line c = handed_on c.from_residual.ensures.1 ∙ (rw (← c.in_err-line.ensures))

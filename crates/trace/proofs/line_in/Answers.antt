@@ -1,6 +1,8 @@
 -- By whether the line is there.
+use mathlib.Core.Path.{◌∙◌}
+use Rattle.refusal.proofs.Checks.{handed_on}
+use Rattle.refusal.specs.Check.{on_answer}
 use Rattle.trace.specs.Trace.{line_in}
-use Rattle.array.specs.Element.{on_element}
 use native.Mathlib.Nat.{add-zero}
 use Rattle.trace.proofs.line_in.Goals as goal
 
@@ -8,9 +10,9 @@ pub nth-requires : goal.nth-requires
 nth-requires c =
     rw c.of_infos-headers.ensures c.requires.bounded
 
-pub returns-in-At : goal.returns-in-At
-unfolding line_in on_element
-returns-in-At c =
+pub returns : goal.returns
+unfolding line_in on_answer
+returns c =
     rw (
       c.line_of.ensures,
       c.u32_at-profile.ensures,
@@ -19,10 +21,10 @@ returns-in-At c =
       add-zero,
       ← c.of_infos-headers.ensures,
       ← c.nth.ensures,
-      c.in-At.is,
+      c.in_ok-at.was,
     )
 
-pub returns-in-Refused : goal.returns-in-Refused
-unfolding line_in on_element
-returns-in-Refused c =
-    rw (← c.of_infos-headers.ensures, ← c.nth.ensures, c.in-Refused.is)
+pub returns-in_err-at : goal.returns-in_err-at
+unfolding line_in on_answer
+returns-in_err-at c =
+    handed_on c.from_residual.ensures.1 ∙ (rw (← c.of_infos-headers.ensures, ← c.nth.ensures, c.in_err-at.was))

@@ -13,19 +13,19 @@ tested : (s : List ℕ) (low high : ℕ) (t u v : Bool) → 4 ≤ length s
     → in_ranges (ranges low high) (drop 1 s) ≡ (t && (u && v))
 tested s low high t u v h d e f = four_match s (low to high) h ∙ ap₂ ◌&&◌ (sym d) (ap₂ ◌&&◌ (sym e) (sym f))
 
-pub returns-then-s-lt4 : goal.returns-then-s-lt4
-returns-then-s-lt4 c = size_too_few (ranges c.args.low c.args.high) c.args.s.now (omega arith) (omega arith)
+pub returns-in_default : goal.returns-in_default
+returns-in_default c = size_too_few (ranges c.args.low c.args.high) c.args.s.now (omega arith) (omega arith)
 
-pub returns-then-in_range : goal.returns-then-in_range
-returns-then-in_range c =
+pub returns-in-len4-up : goal.returns-in-len4-up
+returns-in-len4-up c =
     let s = c.args.s.now in
     size_yes (ranges c.args.low c.args.high) (drop 1 s)
     (tested s c.args.low c.args.high c.in_range.result c.in_range-2.result c.in_range-3.result (omega arith)
     c.in_range.ensures c.in_range-2.ensures c.in_range-3.ensures
     ∙ c.if-in_range.true)
 
-pub returns-else-in_range : goal.returns-else-in_range
-returns-else-in_range c =
+pub returns-in_default-2 : goal.returns-in_default-2
+returns-in_default-2 c =
     let s = c.args.s.now in
     size_no (ranges c.args.low c.args.high) (drop 1 s)
     (tested s c.args.low c.args.high c.in_range.result c.in_range-2.result c.in_range-3.result (omega arith)

@@ -13,34 +13,34 @@ same-bounds : (rest : List ByteRange) (bytes : List ℕ) {low high low₁ high�
     → size_if (low to high ∷ rest) bytes ≡ size_if (low₁ to high₁ ∷ rest) bytes
 same-bounds rest bytes = ap₂ (λ low high. size_if (low to high ∷ rest) bytes)
 
-pub returns-then-s-eq0 : goal.returns-then-s-eq0
-returns-then-s-eq0 c =
-    size_nil multibyte c.args.s.now c.if-s-eq0.true
-
-pub returns-then-b-lt194 : goal.returns-then-b-lt194
-returns-then-b-lt194 c =
-    let s = c.args.s.now in
-    sym (size_cons multibyte s (omega arith) ∙ lead_low (get_or s 0 0) (drop 1 s) (omega arith))
-
-pub returns-then-b-lt224 : goal.returns-then-b-lt224
-returns-then-b-lt224 c =
+pub returns-in-194-to-223 : goal.returns-in-194-to-223
+returns-in-194-to-223 c =
     let s = c.args.s.now in
     c.two.ensures ∙ sym (size_cons multibyte s (omega arith) ∙ lead_two (get_or s 0 0) (drop 1 s) (omega arith) (omega arith))
 
-pub returns-then-b-lt240 : goal.returns-then-b-lt240
-returns-then-b-lt240 c =
+pub returns-in-224-to-239 : goal.returns-in-224-to-239
+returns-in-224-to-239 c =
     let s = c.args.s.now in
     c.three.ensures ∙ same-bounds (continuation ∷ []) (drop 1 s) c.second_low.ensures c.second_high.ensures
     ∙ sym (size_cons multibyte s (omega arith) ∙ lead_three (get_or s 0 0) (drop 1 s) (omega arith) (omega arith))
 
-pub returns-then-b-lt245 : goal.returns-then-b-lt245
-returns-then-b-lt245 c =
+pub returns-in-240-to-244 : goal.returns-in-240-to-244
+returns-in-240-to-244 c =
     let s = c.args.s.now in
     c.four.ensures
-    ∙ same-bounds (continuation ∷ continuation ∷ []) (drop 1 s) c.second_low-then-b-lt245.ensures c.second_high-then-b-lt245.ensures
+    ∙ same-bounds (continuation ∷ continuation ∷ []) (drop 1 s) c.second_low-in-240-to-244.ensures c.second_high-in-240-to-244.ensures
     ∙ sym (size_cons multibyte s (omega arith) ∙ lead_four (get_or s 0 0) (drop 1 s) (omega arith) (omega arith))
 
-pub returns : goal.returns
-returns c =
+pub returns-in_default : goal.returns-in_default
+returns-in_default c =
+    size_nil multibyte c.args.s.now (omega arith)
+
+pub returns-in_default-2 : goal.returns-in_default-2
+returns-in_default-2 c =
+    let s = c.args.s.now in
+    sym (size_cons multibyte s (omega arith) ∙ lead_low (get_or s 0 0) (drop 1 s) (omega arith))
+
+pub returns-in_default-3 : goal.returns-in_default-3
+returns-in_default-3 c =
     let s = c.args.s.now in
     sym (size_cons multibyte s (omega arith) ∙ lead_high (get_or s 0 0) (drop 1 s) (omega arith))

@@ -1,6 +1,12 @@
 -- The first byte, then group by group, then byte by byte.
-use native.Mathlib.Omega.{arith}
-use Rattle.utf8.proofs.Progress.{spans_none, spans_on, tested_yes, tested_no}
+use Rattle.std.proofs.Common.{◌≡◌, ◌∙◌, ◌-◌, take, drop, length, rules, tests, arith}
+use Rattle.std.proofs.lemmas.Iterator.{YieldsList-from_slice}
+use Rattle.std.proofs.lemmas.Iterator.Consumers.{count_from_yields_List}
+use Rattle.std.proofs.lemmas.Iterator.Search.{YieldsList-from_take_while}
+use Rattle.std.proofs.lemmas.List.Folds.{length-prefix_len}
+use Rattle.std.specs.List.{prefix_len}
+use Rattle.utf8.specs.Progress.{is_plain}
+use Rattle.utf8.proofs.Progress.{spans_none, spans_on, tested_yes, tested_no, plain_prefix, rest_bytes}
 use Rattle.utf8.proofs.plain_end.Goals as goal
 
 pub returns-then-not-is_plain : goal.returns-then-not-is_plain
@@ -10,25 +16,14 @@ returns-then-not-is_plain c =
       end = tested_no c.args.bytes.now c.args.from c.is_plain.result c.is_plain.ensures c.if-not-is_plain.true;
     }
 
-pub loop-i-init : goal.loop-i-init
-loop-i-init c =
-    spans_on c.args.bytes.now
-    (tested_yes c.args.bytes.now c.args.from c.is_plain.result c.is_plain.ensures (omega arith) c.if-not-is_plain.false)
-    c.skip_groups-i.ensures
-
-pub returns-then-not-is_plain-2 : goal.returns-then-not-is_plain-2
-returns-then-not-is_plain-2 c =
-    record {
-      spans = c.loop-i.invariant;
-      end = tested_no c.args.bytes.now c.loop-i.i c.is_plain-in-loop-i.result c.is_plain-in-loop-i.ensures c.if-not-is_plain-2.true;
-    }
-
-pub loop-i-preserved : goal.loop-i-preserved
-loop-i-preserved c =
-    spans_on c.args.bytes.now c.loop-i.invariant
-    (tested_yes c.args.bytes.now c.loop-i.i c.is_plain-in-loop-i.result c.is_plain-in-loop-i.ensures
-    c.loop-i-test.true c.if-not-is_plain-2.false)
-
 pub returns : goal.returns
 returns c =
-    record { spans = c.loop-i.invariant; end = λ h l. absurd (omega arith) }
+    let before = count_from_yields_List c.take_while.result _ c.count.ensures.ran
+    (YieldsList-from_take_while _ is_plain
+    (YieldsList-from_slice (take (length c.args.bytes.now - c.skip_groups-at.result) (drop c.skip_groups-at.result c.args.bytes.now)) (cc))
+    c.take_while.ensures.closure c.take_while.ensures.done (λ x b q k. search (rules, tests))) in
+    let n : c.count.result ≡ prefix_len is_plain (drop c.skip_groups-at.result c.args.bytes.now) =
+    (rw rest_bytes at before) ∙ length-prefix_len is_plain (drop c.skip_groups-at.result c.args.bytes.now) in
+    let first = tested_yes c.args.bytes.now c.args.from c.is_plain.result c.is_plain.ensures c.requires c.if-not-is_plain.false in
+    let here = plain_prefix c.args.bytes.now c.skip_groups-at.result c.skip_groups-at.ensures.in_bytes in
+    rw n (record { spans = spans_on c.args.bytes.now first (spans_on c.args.bytes.now c.skip_groups-at.ensures here.spans); end = here.end })

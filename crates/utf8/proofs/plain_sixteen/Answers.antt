@@ -1,20 +1,13 @@
--- The bytes so far are passed where all were plain.
-use mathlib.Core.Path.{◌≡◌}
-use native.Mathlib.Omega.{arith}
-use Rattle.utf8.proofs.Progress.{group_none, group_more}
+-- Plain so far exactly if all the bytes passed are.
+use Rattle.std.proofs.Common.{◌≡◌, ◌∷◌, [], ◌∙◌, ap, refl, rules, tests}
+use Rattle.std.specs.List.{list_all}
+use Rattle.std.proofs.lemmas.List.Folds.{list_all-append}
+use Rattle.std.proofs.lemmas.Fn.{fold_over, slice_gives, fronts}
+use Rattle.utf8.specs.Progress.{is_plain}
 use Rattle.utf8.proofs.plain_sixteen.Goals as goal
-
-pub loop-k-init : goal.loop-k-init
-loop-k-init c =
-    (omega arith, λ e. group_none c.args.bytes.now c.args.from (omega arith))
-
-pub loop-k-preserved : goal.loop-k-preserved
-loop-k-preserved c = (
-  omega arith,
-  group_more c.args.bytes.now c.args.from c.loop-k.k c.loop-k.plain c.is_plain-plain.result c.loop-k.invariant.1 (omega arith)
-      c.is_plain-plain.ensures,
-)
 
 pub returns : goal.returns
 returns c =
-    let z : c.loop-k.k ≡ 16 = omega arith in rw z at c.loop-k.invariant.1
+    fold_over fronts (λ y. y.now) _ (λ ys plain. plain ≡ list_all is_plain ys) _
+    (λ ys a x b f' j k. let more = list_all-append is_plain ys (x.now ∷ []) in search (rules, tests)) _ _ _ _ (slice_gives c.iter.result) refl c.fold.ensures.ran
+    ∙ ap (list_all is_plain) c.iter.ensures.rest

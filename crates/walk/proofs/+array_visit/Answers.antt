@@ -125,12 +125,12 @@ pub visit-visit_check-check-requires : goal.visit-visit_check-check-requires
 visit-visit_check-check-requires t c =
     readable c.args.file.now c.args.p c.args.stop c.requires.1 c.requires.2
 
-pub visit-returns-in-Refused : goal.visit-returns-in-Refused
-visit-returns-in-Refused t c =
+pub visit-returns-in-Err : goal.visit-returns-in-Err
+visit-returns-in-Err t c =
     let t0 = targets_in c.args.targets.now in
     let s = slices c.args.listing.now c.args.table.now c.args.records.now in
     does_refused c.args.file.now t0 c.args.depth c.args.parent c.args.p c.args.stop c.args.n s c.requires.1
-    c.visit_check-check.result c.in-Refused.r c.visit_check-check.ensures c.in-Refused.is
+    c.visit_check-check.result c.in-Err.r c.visit_check-check.ensures c.in-Err.is
 
 pub visit-returns-then-listing-n : goal.visit-returns-then-listing-n
 visit-returns-then-listing-n t c =

@@ -15,4 +15,4 @@ returns-in-Truncated c =
 pub returns-in-Refused : goal.returns-in-Refused
 unfolding walked_words
 returns-in-Refused c =
-    rw (c.code.ensures, c.in-Refused.is)
+    rw (c.from.ensures, c.in-Refused.is)

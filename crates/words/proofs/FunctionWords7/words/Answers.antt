@@ -1,0 +1,6 @@
+-- Whether it has no name, as 1 or 0.
+use Rattle.words.proofs.Laws.{as_bit}
+use Rattle.words.proofs.FunctionWords7.words.Goals as goal
+
+pub returns : goal.returns
+returns c = rw (c.from.ensures, as_bit)
