@@ -142,9 +142,19 @@ fn ids_rise(file: &[u8], at: u64, w: u64, n: u64, least: u64) -> bool
     ensures { result ≡ rises least 1 (id_at w file.now at) n }
 {
     if w == 2 {
-        return seq::rises(|k| id_at(file, at, 2, n, k), n, least, 1);
+        let id = |k|
+            requires elements_inside { ElementsInside file.now at 2 n }
+            requires k_lt_n { k < n }
+            ensures { result ≡ id_at 2 file.entry.now at k }
+        { id_at(file, at, 2, n, k) };
+        return seq::rises(id, n, least, 1);
     }
-    seq::rises(|k| id_at(file, at, 4, n, k), n, least, 1)
+    let id = |k|
+        requires elements_inside { ElementsInside file.now at 4 n }
+        requires k_lt_n { k < n }
+        ensures { result ≡ id_at 4 file.entry.now at k }
+    { id_at(file, at, 4, n, k) };
+    seq::rises(id, n, least, 1)
 }
 
 // Where sub-array i starts, and where it ends.

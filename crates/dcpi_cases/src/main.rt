@@ -93,7 +93,7 @@ fn list(rt: &impl Print, samples: &[u8], profile: u32, metric: u16, room: usize)
 }
 
 fn row(rt: &(impl Files + Print + Eprint), line: &[u8]) -> io::Result<()> {
-    script::heading(rt, line)?;
+    script::heading(&mut io::writer(rt), line)?;
     let mut words = script::words(line);
     let name = words.next_or_empty();
     let Some(question) = Question::read(&mut words) else {

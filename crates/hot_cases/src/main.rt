@@ -2,8 +2,7 @@
 #![tactic(auto)]
 
 use refusal::Refusal;
-use script::{Parts, Spaced};
-use std::alloc::{AllocError, Global};
+use script::Spaced;
 use std::io;
 use std::rt::Files;
 
@@ -13,43 +12,6 @@ const BEFORE: u64 = 7;
 // The most words that are lent of each.
 const MOST: usize = 1024;
 
-// What is lent for a search.
-#[derive(Drop)]
-struct Lent {
-    listing: Vec<u64>,
-    table: Vec<u64>,
-    path: Vec<u64>,
-}
-
-impl Lent {
-    // As many words of each as the line says.
-    fn read(alloc: Global, sizes: &mut Parts) -> Result<Lent, AllocError> {
-        Ok(Lent {
-            listing: vec![in alloc; BEFORE; sizes.size(MOST)]?,
-            table: vec![in alloc; BEFORE; sizes.size(MOST)]?,
-            path: vec![in alloc; BEFORE; sizes.size(MOST)]?,
-        })
-    }
-
-    fn find(&mut self, meta: &[u8], db: &[u8], profile: u64, metric: u64) -> Result<u64, Refusal> {
-        hot_path::find(
-            meta,
-            db,
-            profile,
-            metric,
-            &mut self.listing,
-            &mut self.table,
-            &mut self.path,
-        )
-    }
-
-    fn show(&self, rt: &impl Print) -> io::Result<()> {
-        println!(rt; "hot{}", Spaced(&self.path))?;
-        println!(rt; "listing{}", Spaced(&self.listing))?;
-        println!(rt; "table{}", Spaced(&self.table))
-    }
-}
-
 fn show(rt: &impl Print, found: Result<u64, Refusal>) -> io::Result<()> {
     match found {
         Ok(n) => println!(rt; "path {n}"),
@@ -58,8 +20,8 @@ fn show(rt: &impl Print, found: Result<u64, Refusal>) -> io::Result<()> {
 }
 
 // A line: the names of a meta.db and of a profile.db, the profile, the metric, and the words of listing, table and path.
-fn row(rt: &(impl Files + Print + Eprint + AllocGlobal), line: &[u8]) -> io::Result<()> {
-    script::heading(rt, line)?;
+fn row(rt: &(impl Files + Print + Eprint), line: &[u8]) -> io::Result<()> {
+    script::heading(&mut io::writer(rt), line)?;
     let mut words = script::words(line);
     let mut buffer = [0; 32769];
     let Some(meta) = script::read_file(rt, words.next_or_empty(), &mut buffer)? else {
@@ -71,9 +33,17 @@ fn row(rt: &(impl Files + Print + Eprint + AllocGlobal), line: &[u8]) -> io::Res
     };
     let profile = words.number();
     let metric = words.number();
-    let mut lent = Lent::read(rt.alloc(), &mut words)?;
-    show(rt, lent.find(meta, db, profile, metric))?;
-    lent.show(rt)
+    let [mut listing, mut table, mut path] = [[BEFORE; MOST]; 3];
+    let listing = &mut listing[..words.size(MOST)];
+    let table = &mut table[..words.size(MOST)];
+    let path = &mut path[..words.size(MOST)];
+    show(
+        rt,
+        hot_path::find(meta, db, profile, metric, listing, table, path),
+    )?;
+    println!(rt; "hot{}", Spaced(path))?;
+    println!(rt; "listing{}", Spaced(listing))?;
+    println!(rt; "table{}", Spaced(table))
 }
 
 fn main(rt: HostRuntime) -> io::Result<()> {

@@ -26,9 +26,9 @@ const LEVELS: usize = 200;
 
 // The first greatest of some contexts with a value, by its place and bits.
 #[derive(Clone, Copy)]
-struct Lead {
-    place: u64,
-    bits: u64,
+pub struct Lead {
+    pub place: u64,
+    pub bits: u64,
 }
 
 // One context more.

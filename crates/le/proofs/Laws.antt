@@ -104,3 +104,7 @@ pub word_8 : (s : List ℕ) → number 8 s 0 ≡ from_le_bytes w64 s
 word_8 = summed 7
 
 pub ruleset words = (one, word_2, word_4, word_8)
+
+-- a number of eight bytes by its halves
+pub halves : (s : List ℕ) (at : ℕ) → number 8 s at ≡ number 4 s at + 0x100000000 * number 4 s (at + 4)
+halves = split 4 4

@@ -36,6 +36,7 @@ pub fn load_u32(file: &[u8], at: usize) -> u32
     u32::from_le_bytes(bytes(file, at))
 }
 
+#[tactic(auto, using(crate::proofs::Laws::words, crate::proofs::Laws::halves))]
 pub fn load_u64(file: &[u8], at: usize) -> u64
     requires { at + 8 ≤ length file.now }
     ensures { result ≡ number 8 file.now at }

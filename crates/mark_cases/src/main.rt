@@ -2,8 +2,9 @@
 // and the records, and the bytes lent for a new mark, up to the last that is not as it was.
 #![tactic(auto)]
 
-use script::{Hexadecimal, Parts, Spaced};
-use std::alloc::{AllocError, Global};
+ghost use Rattle.std.specs.Prelude.{◌≡◌, ◌≤◌, length, take};
+
+use script::{Hexadecimal, Spaced};
 use std::io;
 use std::rt::Files;
 use traversal::Walked;
@@ -16,48 +17,11 @@ const BYTE_BEFORE: u8 = 255;
 // The most words and bytes that are lent of each.
 const MOST: usize = 1024;
 
-// What is lent for a walk.
-#[derive(Drop)]
-struct Lent {
-    listing: Vec<u64>,
-    table: Vec<u64>,
-    records: Vec<u64>,
-    mark: Vec<u8>,
-}
-
-impl Lent {
-    // As many words and bytes of each as the line says.
-    fn read(alloc: Global, sizes: &mut Parts) -> Result<Lent, AllocError> {
-        Ok(Lent {
-            listing: vec![in alloc; BEFORE; sizes.size(MOST)]?,
-            table: vec![in alloc; BEFORE; sizes.size(MOST)]?,
-            records: vec![in alloc; BEFORE; sizes.size(MOST)]?,
-            mark: vec![in alloc; BYTE_BEFORE; sizes.size(MOST)]?,
-        })
-    }
-
-    fn walk(&mut self, file: &[u8], mark: &[u8], asks: bool) -> Walked {
-        resume::walk_from(
-            file,
-            mark,
-            asks,
-            &mut self.listing,
-            &mut self.table,
-            &mut self.records,
-            &mut self.mark,
-        )
-    }
-
-    fn show(&self, rt: &impl Print) -> io::Result<()> {
-        println!(rt; "listing{}", Spaced(&self.listing))?;
-        println!(rt; "table{}", Spaced(&self.table))?;
-        println!(rt; "records{}", Spaced(&self.records))?;
-        println!(rt; "mark {}", Hexadecimal(changed(&self.mark)))
-    }
-}
-
 // The bytes up to the last that is not as it was.
-fn changed(bytes: &[u8]) -> &[u8] {
+fn changed(bytes: &[u8]) -> &[u8]
+    ensures bound { length result.now ≤ length bytes.now }
+    ensures part { result.now ≡ take (length result.now) bytes.now }
+{
     match bytes.iter().rposition(|byte| *byte != BYTE_BEFORE) {
         Some(last) => &bytes[..=last],
         None => &[],
@@ -74,8 +38,8 @@ fn show(rt: &impl Print, walked: Walked) -> io::Result<()> {
 
 // A line: the names of a file and of a mark, whether a new mark is asked for (0 or 1), the words of listing, table and records, and the
 // bytes for a new mark.
-fn row(rt: &(impl Files + Print + Eprint + AllocGlobal), line: &[u8]) -> io::Result<()> {
-    script::heading(rt, line)?;
+fn row(rt: &(impl Files + Print + Eprint), line: &[u8]) -> io::Result<()> {
+    script::heading(&mut io::writer(rt), line)?;
     let mut words = script::words(line);
     let mut buffer = [0; 32769];
     let Some(file) = script::read_file(rt, words.next_or_empty(), &mut buffer)? else {
@@ -86,9 +50,22 @@ fn row(rt: &(impl Files + Print + Eprint + AllocGlobal), line: &[u8]) -> io::Res
         return Ok(());
     };
     let asks = words.number() != 0;
-    let mut lent = Lent::read(rt.alloc(), &mut words)?;
-    show(rt, lent.walk(file, mark, asks))?;
-    lent.show(rt)
+    let mut listing = [BEFORE; MOST];
+    let listing = &mut listing[..words.size(MOST)];
+    let mut table = [BEFORE; MOST];
+    let table = &mut table[..words.size(MOST)];
+    let mut records = [BEFORE; MOST];
+    let records = &mut records[..words.size(MOST)];
+    let mut new_mark = [BYTE_BEFORE; MOST];
+    let new_mark = &mut new_mark[..words.size(MOST)];
+    show(
+        rt,
+        resume::walk_from(file, mark, asks, listing, table, records, new_mark),
+    )?;
+    println!(rt; "listing{}", Spaced(listing))?;
+    println!(rt; "table{}", Spaced(table))?;
+    println!(rt; "records{}", Spaced(records))?;
+    println!(rt; "mark {}", Hexadecimal(changed(new_mark)))
 }
 
 fn main(rt: HostRuntime) -> io::Result<()> {

@@ -1,7 +1,8 @@
 // How numbers, bytes and lines are printed.
-ghost use Rattle.std.specs.Prelude.{Some};
+ghost use Rattle.std.specs.Prelude.{Some, OnOk};
 ghost use Rattle.std.specs.List.{flat_map};
-ghost use Rattle.script.specs.Show.{spaced, hexadecimal};
+ghost use Rattle.std.specs.Io.KnownBytes.{Appends};
+ghost use Rattle.script.specs.Show.{spaced, hexadecimal, heading};
 
 use std::{fmt, io};
 
@@ -35,9 +36,11 @@ impl fmt::Display for Hexadecimal<'_> {
     }
 }
 
-/// Prints a line of a list, above what is answered to it.
-pub fn heading(rt: &impl Print, line: &[u8]) -> io::Result<()> {
-    print!(rt; "== ")?;
-    rt.write_all(line)?;
-    println!(rt)
+/// Writes a line of a list, above what is answered to it.
+pub fn heading<W: io::Write>(out: &mut W, line: &[u8]) -> io::Result<()>
+    ensures { OnOk result (Appends (W.contents out.old) (W.contents out.new) (heading line.now)) }
+{
+    out.write_all(b"== ")?;
+    out.write_all(line)?;
+    out.write_all(b"\n")
 }

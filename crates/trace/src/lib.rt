@@ -72,7 +72,12 @@ fn times_rise(file: &[u8], place: u64, n: u64, gap: u64) -> bool
     requires { SamplesInside file.now place n }
     ensures { result ≡ rises 0 gap (time_at file.now place) n }
 {
-    seq::rises(|k| time_at(file, place, n, k), n, 0, gap)
+    let time = |k|
+        requires samples_inside { SamplesInside file.now place n }
+        requires k_lt_n { k < n }
+        ensures { result ≡ time_at file.entry.now place k }
+    { time_at(file, place, n, k) };
+    seq::rises(time, n, 0, gap)
 }
 
 // 7, then 11.

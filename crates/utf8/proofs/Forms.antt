@@ -4,6 +4,7 @@ use mathlib.Core.Bool.{Bool, true, false, ◌&&◌, true≢false}
 use mathlib.Core.List.{List, [], ◌∷◌}
 use mathlib.Core.Path.{◌≡◌, refl, sym, ◌∙◌}
 use native.Mathlib.Omega.{arith}
+use native.Mathlib.Decide.{dec_le}
 use borrow.Author.Tests.{le-leb, lt-leb, leb-true}
 use lib.Dec.{leb}
 use lib.ListN.{length, drop}
@@ -33,6 +34,13 @@ module _ (low high b : ℕ) where
   pub range_bounds : in_range (low to high) b ≡ true → (low ≤ b) × (b ≤ high)
   unfolding in_range
   range_bounds e = let p = (both (leb low b) (leb b high)).0 e in (leb-true low b p.0, leb-true b high p.1)
+
+  pub under_bounds : in_range (low to high) b ≡ false → b ≤ high → b < low
+  under_bounds e h =
+      elim (dec_le low b) [
+        | yes l ↦ absurd (true≢false (sym (in-range l h) ∙ e))
+        | no m ↦ omega arith
+      ]
 
 -- ---- the row of a first byte
 

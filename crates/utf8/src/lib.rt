@@ -77,7 +77,7 @@ fn multibyte_size(s: &[u8]) -> usize
     ensures { result ≡ char_size multibyte s.now }
 {
     match s {
-        [0xC2..=0xDF, ..] => two(s),
+        [b, ..] if in_range(*b, 0xC2, 0xDF) => two(s),
         [b @ 0xE0..=0xEF, ..] => three(s, second_low(*b), second_high(*b)),
         [b @ 0xF0..=0xF4, ..] => four(s, second_low(*b), second_high(*b)),
         _ => 0,

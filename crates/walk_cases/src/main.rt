@@ -59,8 +59,8 @@ fn walk(rt: &impl Print, file: &[u8], listing: &mut [u64], table: &mut [u64]) ->
 }
 
 // A line: a file's name, and the words of the listing and of the table.
-fn row(rt: &(impl Files + Print + Eprint + Alloc), line: &[u8]) -> io::Result<()> {
-    script::heading(rt, line)?;
+fn row(rt: &(impl Files + Print + Eprint), line: &[u8]) -> io::Result<()> {
+    script::heading(&mut io::writer(rt), line)?;
     let mut words = script::words(line);
     let mut buffer = [0; 32769];
     let Some(file) = script::read_file(rt, words.next_or_empty(), &mut buffer)? else {
@@ -69,9 +69,11 @@ fn row(rt: &(impl Files + Print + Eprint + Alloc), line: &[u8]) -> io::Result<()
     if report::too_long(rt, file)? {
         return Ok(());
     }
-    let mut listing = vec![in rt.alloc(); BEFORE; words.size(MOST)]?;
-    let mut table = vec![in rt.alloc(); BEFORE; words.size(MOST)]?;
-    walk(rt, file, &mut listing, &mut table)
+    let mut listing = [BEFORE; MOST];
+    let listing = &mut listing[..words.size(MOST)];
+    let mut table = [BEFORE; MOST];
+    let table = &mut table[..words.size(MOST)];
+    walk(rt, file, listing, table)
 }
 
 fn main(rt: HostRuntime) -> io::Result<()> {

@@ -4,9 +4,10 @@
 // the number of each profile's tuple; how many identifications each tuple has.
 #![tactic(auto)]
 
+ghost use Rattle.std.specs.Prelude.{◌≡◌, length};
+
 use refusal::Refusal;
 use script::{Hexadecimal, Parts};
-use std::alloc::{AllocError, Global};
 use std::io;
 use std::rt::Files;
 
@@ -51,12 +52,21 @@ impl<'a> Iterator for Cases<'a> {
     }
 }
 
-// The decimal numbers of a line.
-fn numbers(alloc: Global, line: &[u8]) -> Result<Vec<u64>, AllocError> {
-    script::words(line)
-        .take(WORDS)
-        .map(script::decimal)
-        .collect(alloc)
+// The decimal numbers of a line, as many as there are words for.
+fn numbers<'a>(line: &[u8], words: &'a mut [u64; WORDS]) -> &'a [u64] {
+    let texts = script::words(line);
+    for (word, text) in words.iter_mut().zip(texts) {
+        *word = script::decimal(text);
+    }
+    let n = script::words(line).take(WORDS).count();
+    words.get(..n).unwrap_or_default()
+}
+
+// Zeros, of a length that a caller knows without counting them.
+fn no_identifiers() -> [u8; IDENTIFIERS]
+    ensures { 1048576 ≡ length result }
+{
+    [0; IDENTIFIERS]
 }
 
 fn show(rt: &impl Print, answer: Result<u64, Refusal>) -> io::Result<()> {
@@ -77,39 +87,37 @@ fn rows(rt: &impl Print, file: &[u8]) -> io::Result<()> {
 
 impl Case<'_> {
     fn heading(&self, rt: &impl Print) -> io::Result<()> {
-        script::heading(rt, self.files)?;
+        script::heading(&mut io::writer(rt), self.files)?;
         rt.write_all(self.profiles)?;
         println!(rt)?;
         rt.write_all(self.tuples)?;
         println!(rt)
     }
 
-    fn write(&self, rt: &(impl Files + Print + Eprint + AllocGlobal)) -> io::Result<()> {
-        let profiles = numbers(rt.alloc(), self.profiles)?;
-        let tuples = numbers(rt.alloc(), self.tuples)?;
+    fn write(&self, rt: &(impl Files + Print + Eprint)) -> io::Result<()> {
         let mut words = script::words(self.files);
-        let mut identifiers = vec![in rt.alloc(); 0; IDENTIFIERS]?;
-        let Some(_) = script::read_file(rt, words.next_or_empty(), &mut identifiers)? else {
+        let mut buffer = no_identifiers();
+        let Some(_) = script::read_file(rt, words.next_or_empty(), &mut buffer)? else {
             return Ok(());
         };
-        let identifiers = identifiers
-            .as_slice()
-            .get(..words.size(usize::MAX))
-            .unwrap_or_default();
+        let identifiers = buffer.get(..words.size(usize::MAX)).unwrap_or_default();
         let mut buffer = [0; 65536];
         let Some(entries) = script::read_file(rt, words.next_or_empty(), &mut buffer)? else {
             return Ok(());
         };
-        let room = words.size(usize::MAX);
-        if LONGEST < room {
+        let mut file = [BEFORE; LONGEST];
+        let Some(file) = file.get_mut(..words.size(usize::MAX)) else {
             return Ok(());
-        }
-        let mut file = vec![in rt.alloc(); BEFORE; room]?;
+        };
+        let mut profiles = [0; WORDS];
+        let profiles = numbers(self.profiles, &mut profiles);
+        let mut tuples = [0; WORDS];
+        let tuples = numbers(self.tuples, &mut tuples);
         show(
             rt,
-            profile_writer::write(&profiles, &tuples, identifiers, entries, &mut file),
+            profile_writer::write(profiles, tuples, identifiers, entries, file),
         )?;
-        rows(rt, &file)
+        rows(rt, file)
     }
 }
 

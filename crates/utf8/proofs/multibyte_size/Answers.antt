@@ -5,6 +5,7 @@ use mathlib.Core.Path.{◌≡◌, sym, ap₂, ◌∙◌}
 use native.Mathlib.Omega.{arith}
 use lib.ListN.{get_or, drop}
 use Rattle.utf8.specs.Grammar.{ByteRange, ◌to◌, continuation, multibyte, size_if}
+use Rattle.utf8.proofs.Forms.{range_bounds, under_bounds}
 use Rattle.utf8.proofs.Read.{size_nil, size_cons, lead_low, lead_high, lead_two, lead_three, lead_four}
 use Rattle.utf8.proofs.multibyte_size.Goals as goal
 
@@ -13,9 +14,10 @@ same-bounds : (rest : List ByteRange) (bytes : List ℕ) {low high low₁ high�
     → size_if (low to high ∷ rest) bytes ≡ size_if (low₁ to high₁ ∷ rest) bytes
 same-bounds rest bytes = ap₂ (λ low high. size_if (low to high ∷ rest) bytes)
 
-pub returns-in-194-to-223 : goal.returns-in-194-to-223
-returns-in-194-to-223 c =
+pub returns-in-len1-up : goal.returns-in-len1-up
+returns-in-len1-up c =
     let s = c.args.s.now in
+    let b = range_bounds _ _ _ (sym c.in_range.ensures ∙ c.if-in_range.true) in
     c.two.ensures ∙ sym (size_cons multibyte s (omega arith) ∙ lead_two (get_or s 0 0) (drop 1 s) (omega arith) (omega arith))
 
 pub returns-in-224-to-239 : goal.returns-in-224-to-239
@@ -38,6 +40,7 @@ returns-in_default c =
 pub returns-in_default-2 : goal.returns-in_default-2
 returns-in_default-2 c =
     let s = c.args.s.now in
+    let b = under_bounds _ _ _ (sym c.in_range.ensures ∙ c.if-in_range.false) in
     sym (size_cons multibyte s (omega arith) ∙ lead_low (get_or s 0 0) (drop 1 s) (omega arith))
 
 pub returns-in_default-3 : goal.returns-in_default-3
