@@ -136,52 +136,45 @@ pub fn word_at(file: &[u8], at: u64, w: u64, n: u64, k: u64) -> u64
     le::load_u64(file, element(file, at, w, n, k) + w as usize)
 }
 
-// Whether n ids are at least `least` and increase. Each width is a loop of its own, whose stride is a constant.
-fn ids_rise(file: &[u8], at: u64, w: u64, n: u64, least: u64) -> bool
-    requires { ElementsInside file.now at w n }
-    ensures { result ≡ rises least 1 (id_at w file.now at) n }
+// Whether n ids of W bytes are at least `least` and increase.
+fn ids_rise<const W: u64>(file: &[u8], at: u64, n: u64, least: u64) -> bool
+    requires { ElementsInside file.now at W n }
+    ensures { result ≡ rises least 1 (id_at W file.now at) n }
 {
-    if w == 2 {
-        let id = |k|
-            requires elements_inside { ElementsInside file.now at 2 n }
-            requires k_lt_n { k < n }
-            ensures { result ≡ id_at 2 file.entry.now at k }
-        { id_at(file, at, 2, n, k) };
-        return seq::rises(id, n, least, 1);
-    }
     let id = |k|
-        requires elements_inside { ElementsInside file.now at 4 n }
+        requires elements_inside { ElementsInside file.now at W n }
         requires k_lt_n { k < n }
-        ensures { result ≡ id_at 4 file.entry.now at k }
-    { id_at(file, at, 4, n, k) };
+        ensures { result ≡ id_at W file.entry.now at k }
+    { id_at(file, at, W, n, k) };
     seq::rises(id, n, least, 1)
 }
 
-// Where sub-array i starts, and where it ends.
-fn start_of(file: &[u8], h: Shape, b: Block, i: u64) -> u64
-    requires arrays_inside { ArraysInside file.now h b }
+// Where sub-array i starts, and where it ends, in a block whose outer ids have w bytes.
+fn start_of(file: &[u8], w: u64, b: Block, i: u64) -> u64
+    requires elements_inside { ElementsInside file.now b.indices w b.count }
     requires i_lt_count { i < b.count }
-    ensures { result ≡ start_of file.now h b i }
+    ensures { (h : Shape) → h.outer ≡ w → result ≡ start_of file.now h b i }
 {
-    word_at(file, b.indices, h.outer, b.count, i)
+    word_at(file, b.indices, w, b.count, i)
 }
 
-fn end_of(file: &[u8], h: Shape, b: Block, i: u64) -> u64
-    requires arrays_inside { ArraysInside file.now h b }
+fn end_of(file: &[u8], w: u64, b: Block, i: u64) -> u64
+    requires elements_inside { ElementsInside file.now b.indices w b.count }
     requires i_lt_count { i < b.count }
-    ensures { result ≡ end_of file.now h b i }
+    ensures { (h : Shape) → h.outer ≡ w → result ≡ end_of file.now h b i }
 {
     if i + 1 < b.count {
-        start_of(file, h, b, i + 1)
+        start_of(file, w, b, i + 1)
     } else {
         b.total
     }
 }
 
-// Whether a sub-array from a start to an end has values, ends within them all, and its ids increase.
-fn part_rule(file: &[u8], h: Shape, b: Block, start: u64, end: u64) -> bool
-    requires { ArraysInside file.now h b }
-    ensures { (i : ℕ) → start ≡ start_of file.now h b i → end ≡ end_of file.now h b i → result ≡ part_rule file.now h b i }
+// Whether a sub-array from a start to an end has values, ends within them all, and its ids, of W bytes, increase from the least on.
+fn part_rule<const W: u64>(file: &[u8], least: u64, b: Block, start: u64, end: u64) -> bool
+    requires { ElementsInside file.now b.values W b.total }
+    ensures { (h : Shape) (i : ℕ) → h.inner ≡ W → h.least ≡ least → start ≡ start_of file.now h b i → end ≡ end_of file.now h b i
+        → result ≡ part_rule file.now h b i }
 {
     if end <= start {
         return false;
@@ -189,34 +182,54 @@ fn part_rule(file: &[u8], h: Shape, b: Block, start: u64, end: u64) -> bool
     if b.total < end {
         return false;
     }
-    let at = element(file, b.values, h.inner, b.total, start) as u64;
-    ids_rise(file, at, h.inner, end - start, h.least)
+    let at = element(file, b.values, W, b.total, start) as u64;
+    ids_rise::<W>(file, at, end - start, least)
 }
 
-// 11, in one pass. Where one sub-array ends, the next starts.
-fn order_rule(file: &[u8], h: Shape, b: Block) -> bool
-    requires { ArraysInside file.now h b }
-    ensures { result ≡ order_rule file.now h b }
+// 11 with ids of these widths, in one pass. Where one sub-array ends, the next starts. Inlined, its loop would run short of registers.
+#[inline(never)]
+fn one_pass<const OUTER: u64, const INNER: u64>(file: &[u8], least: u64, b: Block) -> bool
+    requires indices { ElementsInside file.now b.indices OUTER b.count }
+    requires values { ElementsInside file.now b.values INNER b.total }
+    requires some_index { 0 < b.count }
+    ensures { (h : Shape) → h.outer ≡ OUTER → h.inner ≡ INNER → h.least ≡ least → result ≡ order_rule file.now h b }
 {
-    if start_of(file, h, b, 0) != 0 {
+    if start_of(file, OUTER, b, 0) != 0 {
         return false;
     }
     let n = b.count;
     let mut low = 0;
     let mut start = 0;
     for i in 0..n {
-        let id = id_at(file, b.indices, h.outer, n, i);
+        let id = id_at(file, b.indices, OUTER, n, i);
         if id < low {
             return false;
         }
-        let end = end_of(file, h, b, i);
-        if !part_rule(file, h, b, start, end) {
+        let end = end_of(file, OUTER, b, i);
+        if !part_rule::<INNER>(file, least, b, start, end) {
             return false;
         }
         low = id + 1;
         start = end;
     }
     true
+}
+
+// 11. Each pair of widths is a loop of its own, whose strides are constants.
+fn order_rule(file: &[u8], h: Shape, b: Block) -> bool
+    requires { ArraysInside file.now h b }
+    ensures { result ≡ order_rule file.now h b }
+{
+    if h.outer == 2 {
+        if h.inner == 2 {
+            return one_pass::<2, 2>(file, h.least, b);
+        }
+        return one_pass::<2, 4>(file, h.least, b);
+    }
+    if h.inner == 2 {
+        return one_pass::<4, 2>(file, h.least, b);
+    }
+    one_pass::<4, 4>(file, h.least, b)
 }
 
 // 7, then 11. Where the file has one section, the other has size 0.
@@ -351,8 +364,8 @@ pub fn part_at(file: &[u8], h: Shape, b: Block, i: u64) -> Part
     ensures value { result ≡ part_at file.now h b i }
     ensures sound_part { SoundPart file.now h result }
 {
-    let start = start_of(file, h, b, i);
-    let length = end_of(file, h, b, i) - start;
+    let start = start_of(file, h.outer, b, i);
+    let length = end_of(file, h.outer, b, i) - start;
     let place = element(file, b.values, h.inner, b.total, start) as u64;
     Part { place, length }
 }

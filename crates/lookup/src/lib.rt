@@ -57,6 +57,7 @@ pub fn profile_block(file: &[u8], profile: u64) -> Result<Block, Refusal>
 }
 
 // The block of a context of cct.db.
+#[inline(always)]
 pub fn cct_block(file: &[u8], context: u64) -> Result<Block, Refusal>
     ensures { result ≡ cct_block file.now context }
 {

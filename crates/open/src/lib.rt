@@ -357,7 +357,7 @@ pub fn check_trace(file: &[u8], sections: [[u64; 2]; 1]) -> Result<(), Refusal>
 }
 
 // The entry points: the sections of a file that opens.
-// Inlined, so that the eight pairs are not copied twice on their way to the caller.
+// Inlined, so that the pairs are not copied twice on their way to the caller.
 #[inline(always)]
 pub fn open_meta(file: &[u8]) -> Result<[[u64; 2]; 8], Refusal>
     ensures { result ≡ opened meta file.now }
@@ -367,6 +367,7 @@ pub fn open_meta(file: &[u8]) -> Result<[[u64; 2]; 8], Refusal>
     Ok(sections)
 }
 
+#[inline(always)]
 pub fn open_profile(file: &[u8]) -> Result<[[u64; 2]; 2], Refusal>
     ensures { result ≡ opened profile file.now }
 {

@@ -1,46 +1,18 @@
--- The outer ids passed rise, and their sub-arrays are right; the next one starts at `start`.
-use Rattle.block.specs.Block.{outer_ids}
-use Rattle.block.specs.OnePass.{part_rule}
-use Rattle.block.proofs.Order.{inner_end}
-use Rattle.block.proofs.Parts.{start_fails, ids_fail, part_fails, all_pass}
-use Rattle.seq.proofs.Every.{every_none, every_more}
-use Rattle.seq.proofs.Rising.{rising_start, rising_not, rising_more, rising_all}
-use mathlib.Core.Path.{◌≡◌, sym, ◌∙◌}
-use native.Mathlib.Omega.{arith}
+-- By the widths.
+use mathlib.Core.Path.{refl}
+use Rattle.block.proofs.Parts.{not_two}
 use Rattle.block.proofs.order_rule.Goals as goal
 
-pub returns-then-start_of-ne0 : goal.returns-then-start_of-ne0
-returns-then-start_of-ne0 c =
-    start_fails c.args.file.now c.args.h c.args.b (λ e. c.if-start_of-ne0.true (c.start_of.ensures ∙ e))
+pub returns-then-h-eq2-2 : goal.returns-then-h-eq2-2
+returns-then-h-eq2-2 c = c.one_pass.ensures c.args.h c.if-h-eq2.true c.if-h-eq2-2.true refl
 
-pub loop-i-init : goal.loop-i-init
-loop-i-init c = (
-  rising_start 0 1 (outer_ids c.args.file.now c.args.h c.args.b) c.args.b.count,
-  every_none (part_rule c.args.file.now c.args.h c.args.b),
-  λ l. sym c.if-start_of-ne0.false ∙ c.start_of.ensures,
-)
+pub returns-then-h-eq2 : goal.returns-then-h-eq2
+returns-then-h-eq2 c = c.one_pass-then-h-eq2.ensures c.args.h c.if-h-eq2.true (not_two c.requires.values.width c.if-h-eq2-2.false) refl
 
-pub returns-then-id-low : goal.returns-then-id-low
-returns-then-id-low c =
-    ids_fail c.args.file.now c.args.h c.args.b
-    (rising_not c.loop-i.invariant.0 c.loop-i-test.true (rw c.id_at-id.ensures.value at c.if-id-low.true))
-
-pub returns-then-not-part_rule : goal.returns-then-not-part_rule
-returns-then-not-part_rule c =
-    let told = c.part_rule.ensures c.loop-i.i (c.loop-i.invariant.2 c.loop-i-test.true) c.end_of-end.ensures in
-    part_fails c.args.file.now c.args.h c.args.b c.loop-i.i c.loop-i-test.true (sym told ∙ c.if-not-part_rule.true)
-
-pub loop-i-preserved : goal.loop-i-preserved
-loop-i-preserved c =
-    let told = c.part_rule.ensures c.loop-i.i (c.loop-i.invariant.2 c.loop-i-test.true) c.end_of-end.ensures in (
-      rw c.id_at-id.ensures.value (rising_more c.loop-i.invariant.0 c.loop-i-test.true (rw c.id_at-id.ensures.value at c.if-id-low.false)),
-      every_more (part_rule c.args.file.now c.args.h c.args.b) c.loop-i.i c.loop-i.invariant.1 (sym told ∙ c.if-not-part_rule.false),
-      λ l. c.end_of-end.ensures ∙ inner_end c.args.file.now c.args.h c.args.b c.loop-i.i l,
-    )
+pub returns-then-h-eq2-3 : goal.returns-then-h-eq2-3
+returns-then-h-eq2-3 c = c.one_pass-then-h-eq2-3.ensures c.args.h (not_two c.requires.indices.width c.if-h-eq2.false) c.if-h-eq2-3.true refl
 
 pub returns : goal.returns
 returns c =
-    let e : c.loop-i.i ≡ c.args.b.count = omega (arith, c.loop-i.invariant.0.within) in
-    all_pass c.args.file.now c.args.h c.args.b (sym c.start_of.ensures ∙ c.if-start_of-ne0.false)
-    (rising_all c.loop-i.invariant.0 c.loop-i-test.false)
-    (rw e at c.loop-i.invariant.1)
+    c.one_pass-2.ensures c.args.h (not_two c.requires.indices.width c.if-h-eq2.false) (not_two c.requires.values.width c.if-h-eq2-3.false)
+    refl

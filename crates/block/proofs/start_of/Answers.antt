@@ -4,5 +4,4 @@ use Rattle.block.proofs.start_of.Goals as goal
 
 pub returns : goal.returns
 unfolding start_of
-returns c =
-    c.word_at.ensures
+returns c = λ h e. rw e c.word_at.ensures
