@@ -136,16 +136,16 @@ pub fn word_at(file: &[u8], at: u64, w: u64, n: u64, k: u64) -> u64
     le::load_u64(file, element(file, at, w, n, k) + w as usize)
 }
 
-// Whether n ids of W bytes are at least `least` and increase.
-fn ids_rise<const W: u64>(file: &[u8], at: u64, n: u64, least: u64) -> bool
-    requires { ElementsInside file.now at W n }
-    ensures { result ≡ rises least 1 (id_at W file.now at) n }
+// Whether n ids are at least `least` and increase.
+fn ids_rise(file: &[u8], at: u64, w: u64, n: u64, least: u64) -> bool
+    requires { ElementsInside file.now at w n }
+    ensures { result ≡ rises least 1 (id_at w file.now at) n }
 {
     let id = |k|
-        requires elements_inside { ElementsInside file.now at W n }
+        requires elements_inside { ElementsInside file.now at w n }
         requires k_lt_n { k < n }
-        ensures { result ≡ id_at W file.entry.now at k }
-    { id_at(file, at, W, n, k) };
+        ensures { result ≡ id_at w file.entry.now at k }
+    { id_at(file, at, w, n, k) };
     seq::rises(id, n, least, 1)
 }
 
@@ -170,10 +170,10 @@ fn end_of(file: &[u8], w: u64, b: Block, i: u64) -> u64
     }
 }
 
-// Whether a sub-array from a start to an end has values, ends within them all, and its ids, of W bytes, increase from the least on.
-fn part_rule<const W: u64>(file: &[u8], least: u64, b: Block, start: u64, end: u64) -> bool
-    requires { ElementsInside file.now b.values W b.total }
-    ensures { (h : Shape) (i : ℕ) → h.inner ≡ W → h.least ≡ least → start ≡ start_of file.now h b i → end ≡ end_of file.now h b i
+// Whether a sub-array from a start to an end has values, ends within them all, and its ids, of w bytes, increase from the least on.
+fn part_rule(file: &[u8], w: u64, least: u64, b: Block, start: u64, end: u64) -> bool
+    requires { ElementsInside file.now b.values w b.total }
+    ensures { (h : Shape) (i : ℕ) → h.inner ≡ w → h.least ≡ least → start ≡ start_of file.now h b i → end ≡ end_of file.now h b i
         → result ≡ part_rule file.now h b i }
 {
     if end <= start {
@@ -182,8 +182,8 @@ fn part_rule<const W: u64>(file: &[u8], least: u64, b: Block, start: u64, end: u
     if b.total < end {
         return false;
     }
-    let at = element(file, b.values, W, b.total, start) as u64;
-    ids_rise::<W>(file, at, end - start, least)
+    let at = element(file, b.values, w, b.total, start) as u64;
+    ids_rise(file, at, w, end - start, least)
 }
 
 // 11 with ids of these widths, in one pass. Where one sub-array ends, the next starts. Inlined, its loop would run short of registers.
@@ -206,7 +206,7 @@ fn one_pass<const OUTER: u64, const INNER: u64>(file: &[u8], least: u64, b: Bloc
             return false;
         }
         let end = end_of(file, OUTER, b, i);
-        if !part_rule::<INNER>(file, least, b, start, end) {
+        if !part_rule(file, INNER, least, b, start, end) {
             return false;
         }
         low = id + 1;
@@ -220,16 +220,12 @@ fn order_rule(file: &[u8], h: Shape, b: Block) -> bool
     requires { ArraysInside file.now h b }
     ensures { result ≡ order_rule file.now h b }
 {
-    if h.outer == 2 {
-        if h.inner == 2 {
-            return one_pass::<2, 2>(file, h.least, b);
-        }
-        return one_pass::<2, 4>(file, h.least, b);
+    match (h.outer, h.inner) {
+        (2, 2) => one_pass::<2, 2>(file, h.least, b),
+        (2, _) => one_pass::<2, 4>(file, h.least, b),
+        (_, 2) => one_pass::<4, 2>(file, h.least, b),
+        _ => one_pass::<4, 4>(file, h.least, b),
     }
-    if h.inner == 2 {
-        return one_pass::<4, 2>(file, h.least, b);
-    }
-    one_pass::<4, 4>(file, h.least, b)
 }
 
 // 7, then 11. Where the file has one section, the other has size 0.

@@ -56,7 +56,7 @@ pub fn profile_block(file: &[u8], profile: u64) -> Result<Block, Refusal>
     checked_at(file, h, sections[INFOS], sections[ID_TUPLES], profile)
 }
 
-// The block of a context of cct.db.
+// The block of a context of cct.db. Inlined, so that it is not copied on its way to the caller.
 #[inline(always)]
 pub fn cct_block(file: &[u8], context: u64) -> Result<Block, Refusal>
     ensures { result ≡ cct_block file.now context }

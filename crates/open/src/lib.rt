@@ -357,7 +357,7 @@ pub fn check_trace(file: &[u8], sections: [[u64; 2]; 1]) -> Result<(), Refusal>
 }
 
 // The entry points: the sections of a file that opens.
-// Inlined, so that the pairs are not copied twice on their way to the caller.
+// The first two are inlined, so that their pairs are not copied twice on their way to the caller.
 #[inline(always)]
 pub fn open_meta(file: &[u8]) -> Result<[[u64; 2]; 8], Refusal>
     ensures { result ≡ opened meta file.now }

@@ -5,20 +5,6 @@ use mathlib.Core.Path.{refl}
 use native.Mathlib.Omega.{arith}
 use Rattle.block.proofs.part_at.Goals as goal
 
-pub start_of-start-requires : goal.start_of-start-requires
-start_of-start-requires c =
-    record {
-      elements_inside = (c.requires.sound_block.inside (omega (arith, c.requires.i_lt_count))).indices;
-      i_lt_count = c.requires.i_lt_count;
-    }
-
-pub end_of-requires : goal.end_of-requires
-end_of-requires c =
-    record {
-      elements_inside = (c.requires.sound_block.inside (omega (arith, c.requires.i_lt_count))).indices;
-      i_lt_count = c.requires.i_lt_count;
-    }
-
 pub overflow_sub-length : goal.overflow_sub-length
 overflow_sub-length c =
     omega (arith, (part-of c.requires.sound_block c.args.i _ _ c.requires.i_lt_count (c.start_of-start.ensures c.args.h refl) (c.end_of.ensures c.args.h refl)).some)
