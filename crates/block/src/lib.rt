@@ -186,9 +186,10 @@ fn part_rule(file: &[u8], w: u64, least: u64, b: Block, start: u64, end: u64) ->
     ids_rise(file, at, w, end - start, least)
 }
 
-// 11 with ids of these widths, in one pass. Where one sub-array ends, the next starts. Inlined, its loop would run short of registers.
+// Whether a block with ids of these widths keeps 11, in one pass. Where one sub-array ends, the next starts.
+// Not inlined: inside a caller its loop runs short of registers.
 #[inline(never)]
-fn one_pass<const OUTER: u64, const INNER: u64>(file: &[u8], least: u64, b: Block) -> bool
+fn keeps_order<const OUTER: u64, const INNER: u64>(file: &[u8], least: u64, b: Block) -> bool
     requires indices { ElementsInside file.now b.indices OUTER b.count }
     requires values { ElementsInside file.now b.values INNER b.total }
     requires some_index { 0 < b.count }
@@ -221,10 +222,10 @@ fn order_rule(file: &[u8], h: Shape, b: Block) -> bool
     ensures { result ≡ order_rule file.now h b }
 {
     match (h.outer, h.inner) {
-        (2, 2) => one_pass::<2, 2>(file, h.least, b),
-        (2, _) => one_pass::<2, 4>(file, h.least, b),
-        (_, 2) => one_pass::<4, 2>(file, h.least, b),
-        _ => one_pass::<4, 4>(file, h.least, b),
+        (2, 2) => keeps_order::<2, 2>(file, h.least, b),
+        (2, _) => keeps_order::<2, 4>(file, h.least, b),
+        (_, 2) => keeps_order::<4, 2>(file, h.least, b),
+        _ => keeps_order::<4, 4>(file, h.least, b),
     }
 }
 

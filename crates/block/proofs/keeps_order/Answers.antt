@@ -7,7 +7,7 @@ use Rattle.seq.proofs.Every.{every_none, every_more}
 use Rattle.seq.proofs.Rising.{rising_start, rising_not, rising_more, rising_all}
 use mathlib.Core.Path.{◌≡◌, sym, ◌∙◌}
 use native.Mathlib.Omega.{arith}
-use Rattle.block.proofs.one_pass.Goals as goal
+use Rattle.block.proofs.keeps_order.Goals as goal
 
 pub returns-then-start_of-ne0 : goal.returns-then-start_of-ne0
 returns-then-start_of-ne0 g c = λ h o w l.

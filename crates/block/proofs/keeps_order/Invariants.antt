@@ -7,7 +7,7 @@ use Rattle.seq.proofs.Rising.{Rising}
 use Prim.Native.Nat.{◌<◌}
 use mathlib.Core.Bool.{true}
 use mathlib.Core.Path.{◌≡◌}
-use Rattle.block.proofs.one_pass.Given as goal
+use Rattle.block.proofs.keeps_order.Given as goal
 
 abbrev pub invariant-loop-i : goal.invariant-loop-i
 invariant-loop-i g l =
